@@ -35,6 +35,11 @@ abbrev pub fieldOf : Outcome ℕ → Field
 fieldOf (got v n) = field.Value v n
 fieldOf (refused q p) = field.Refused q p
 
+-- a number's reading with the number forgotten
+abbrev pub stepOfField : Field → Step
+stepOfField (field.Value v n) = step.Next n
+stepOfField (field.Refused q p) = step.Refused q p
+
 -- document 01, state_wire.rs: "Offsets are base plus position and stop at 2^64 − 1"
 abbrev pub offsetOf : (base position : ℕ) → ℕ
 offsetOf base position = min (base + position) (2 ^ 64 - 1)

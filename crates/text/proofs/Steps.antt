@@ -157,16 +157,19 @@ width-within (a ∷ s) = go (lead a)
 
 -- octets that are passed
 skip : (k : ℕ) (s : List ℕ) → k ≤ length s → upTo k s ≡ k + validUpTo (drop k s)
+unfolding validUpTo
 skip zero s h = sym (zero-add (validUpTo s))
 skip (suc k) [] h = absurd (omega arith)
 skip (suc k) (b ∷ s) h = let r = skip k s (omega arith) in omega arith
 
 -- a character more, and no more
 pub stop : (s : List ℕ) → charWidth s ≡ 0 → validUpTo s ≡ 0
+unfolding validUpTo
 stop [] e = refl
 stop (b ∷ s) e = rw (e, upTo)
 
 pub step : (s : List ℕ) (w : ℕ) → charWidth s ≡ w → 0 < w → validUpTo s ≡ w + validUpTo (drop w s)
+unfolding validUpTo
 step s zero e h = absurd (omega arith)
 step [] (suc k) e h = absurd (omega arith)
 step (b ∷ s) (suc k) e h =
@@ -186,6 +189,7 @@ module _ (s : List ℕ) (at : ℕ) where
   bad e = let z = stop (drop at s) e in omega arith
 
   pub over : length s ≤ at → at ≡ validFrom s at
+  unfolding validUpTo
   over h = let z : validUpTo (drop at s) ≡ 0 = rw (drop-of-length-le s h) in omega arith
 
 -- octets below 0x80, each a character
@@ -211,4 +215,5 @@ upTo-within zero (b ∷ s) = go (charWidth (b ∷ s)) refl (λ k. upTo-within k 
     go (suc k) e f = rw (e, upTo) (omega (arith, f k))
 
 pub valid-within : (s : List ℕ) → validUpTo s ≤ length s
+unfolding validUpTo
 valid-within s = upTo-within 0 s

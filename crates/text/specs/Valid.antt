@@ -37,7 +37,7 @@ upTo (suc k) (b ∷ bs) = suc (upTo k bs)
 upTo zero (b ∷ bs) = elim (charWidth (b ∷ bs)) [ zero ↦ 0 | suc k ↦ suc (upTo k bs) ]
 
 -- document 01, question 5: where the valid prefix ends
-abbrev pub validUpTo : List ℕ → ℕ
+unfoldable pub validUpTo : List ℕ → ℕ
 validUpTo bs = upTo 0 bs
 
 -- the same, with the first `at` octets passed as whole characters

@@ -1,0 +1,2 @@
+-- What the tests of the code say of the definitions.
+pub mod Fields
