@@ -1,0 +1,4 @@
+pub mod Lists
+pub mod Format
+pub mod Admits
+pub mod Keys
