@@ -1,6 +1,7 @@
 -- What is read stands in the bytes as it is written, and the format admits it.
 use Prim.Native.Nat.{ℕ, zero, suc, _+_, _*_, _-_, _^_, _≤_, _<_}
 use native.Mathlib.Omega.{arith}
+use native.Mathlib.Decide.{decLe}
 use mathlib.Core.Path.{_≡_, refl, sym, ap, _∙_, subst}
 use mathlib.Core.Bool.{Bool, true, _&&_}
 use mathlib.Core.List.{List, [], _∷_, _++_, map}
@@ -10,7 +11,7 @@ use borrow.Author.Tests.{leb-true, ltb-true, eqb-true}
 use Rattle.state.specs.Bytes.{AreBytes, span, numberOf, bytesOf}
 use Rattle.state.specs.Outcome.{Outcome, got}
 use Rattle.state.proofs.Bytes.{Part, span-length, span-drop, part-here, part-nil, part-join, bytes-span, number-bytes, number-below}
-use Rattle.state.proofs.Outcome.{Yields, this, yielded, yields-so, yields-ask, yields-bind}
+use Rattle.state.proofs.Outcome.{Yields, this, always, yielded, yields-so, yields-ask, yields-bind}
 use Rattle.text.specs.Valid.{validUpTo}
 use Rattle.state_wire.specs.Fields.{readNumber, readTag, boundedCount, readCount, readText}
 use Rattle.state_wire.proofs.Fields.{yields-number, yields-span}
@@ -119,3 +120,23 @@ module _ (limit : ℕ) (s : List ℕ) (bytes : AreBytes s) where
   -- what was read stands in the bytes from at up to n as it is written, and is a value that the format admits
   pub read-sound : (f : Fmt) (at : ℕ) (v : El f) (n : ℕ) → at ≤ length s → read limit f s at ≡ got v n → Stands s at n (encode f v) (Holds limit f v)
   read-sound f at v n h e = yielded (subst (λ (o : Outcome (El f)). Yields (λ v m. Stands s at m (encode f v) (Holds limit f v)) o) e (sound f at h))
+
+  -- of a format that reads no value past the end
+  pub sound-inside : (f : Fmt) (at : ℕ) → Yields (λ v m. at ≤ length s) (read limit f s at) → Yields (λ v m. Stands s at m (encode f v) (Holds limit f v)) (read limit f s at)
+  sound-inside f at y = go (decLe at (length s))
+    where
+      go : Dec (at ≤ length s) → Yields (λ v m. Stands s at m (encode f v) (Holds limit f v)) (read limit f s at)
+      go (yes h) = sound f at h
+      go (no n) = yields-so y λ v m h. absurd (n h)
+
+-- such as one that begins with a tag
+module _ (limit : ℕ) (s : List ℕ) (at : ℕ) where
+  pub inside-tagged : (k : ℕ) (f : ℕ → Fmt) → Yields (λ v m. at ≤ length s) (read limit (tagged k f) s at)
+  unfolding read readTag
+  inside-tagged k f =
+      yields-bind (yields-bind (yields-number 1 s at) λ t m p. yields-ask (ltb t k) _ _ λ e. this p) λ t m p.
+      yields-bind {P = λ _ _. Unit} (always (read limit (f t) s m)) λ v n _. this (omega arith)
+
+  pub inside-then : (a b : Fmt) → Yields (λ v m. at ≤ length s) (read limit a s at) → Yields (λ v m. at ≤ length s) (read limit (a then b) s at)
+  unfolding read
+  inside-then a b y = yields-bind y λ v m h. yields-bind {P = λ _ _. Unit} (always (read limit b s m)) λ w n _. this h

@@ -54,6 +54,10 @@ pub data Yields {A : Type 0} (P : A → ℕ → Type 0) : Outcome A → Type 0 w
   this : {v : A} {n : ℕ} → P v n → Yields P (got v n)
   nothing : {q p : ℕ} → Yields P (refused q p)
 
+pub always : {A : Type 0} (o : Outcome A) → Yields (λ v n. Unit) o
+always (got v n) = this tt
+always (refused q p) = nothing
+
 module _ {A : Type 0} {P : A → ℕ → Type 0} where
   pub yielded : {v : A} {n : ℕ} → Yields P (got v n) → P v n
   yielded (this p) = p

@@ -14,7 +14,7 @@ use Rattle.state.specs.declared.Step.the-variants as step
 use Rattle.state.specs.declared.Field.{Field}
 use Rattle.state.specs.declared.Field.the-variants as field
 use Rattle.state.proofs.Bytes.{span-length}
-use Rattle.state.proofs.Outcome.{value-got, value-refused, step-refused, step-yields, Yields, this, yields-ask, yields-bind}
+use Rattle.state.proofs.Outcome.{value-got, value-refused, step-refused, step-yields, value-yields, Yields, this, yields-ask, yields-bind}
 use Rattle.text.specs.Valid.{validUpTo}
 use Rattle.text.proofs.Steps.{valid-within}
 use Rattle.state_wire.specs.Fields.{readSpan, readNumber, readTag, boundedCount, readCount, readText, textOf}
@@ -80,6 +80,11 @@ module _ (known : ℕ) (s : List ℕ) (at : ℕ) {f : Field} (e : f ≡ fieldOf 
     pub tag-unknown : known ≤ t → field.Refused 6 m ≡ fieldOf (readTag known s at)
     unfolding readTag
     tag-unknown l = rw (value-got (readNumber 1 s at) e h, le-ltb t known l)
+
+pub tag-below : (known : ℕ) (s : List ℕ) (at : ℕ) {f : Field} {t m : ℕ} → f ≡ fieldOf (readTag known s at) → f ≡ field.Value t m → t < known
+unfolding readTag
+tag-below known s at e h =
+    value-yields (yields-bind (yields-number 1 s at) λ t m _. yields-ask {P = λ t m. t < known} (ltb t known) 6 m λ b. this (ltb-true _ _ b)) e h
 
 -- ---- question 7
 module _ (least : ℕ) (s : List ℕ) (n next : ℕ) where

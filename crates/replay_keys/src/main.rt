@@ -1,0 +1,270 @@
+// Replays test vectors for text, fields, orders and keys: a line of standard input each, and its answer on a line of
+// standard output. tools/vectors.py writes both. HEX is bytes, two digits each, and `-` where there are none.
+//
+//   t HEX                    how many bytes are valid text:       N
+//   s LIMIT AT HEX           the string at a position:            next N, or refused QUESTION POSITION
+//   n WIDTH AT HEX           the number of 1, 4 or 8 bytes there: value V N, or refused ..
+//   c COUNT LEAST AT HEX     the test of a count read up to AT:   value V N, or refused ..
+//   g KNOWN AT HEX           the tag there:                       value V N, or refused ..
+//   o HEX HEX                the order of two byte strings:       less N, equal N, greater N, where N bytes agree
+//   b HEX HEX                the order of two block keys:         less N .., left refused .., right refused ..
+//   k HEX HEX                the order of two connector keys:     likewise
+use order::Order;
+use state::Field;
+use state::Step;
+use state_key_order::KeysCompared;
+
+// The most bytes of standard input, and of one HEX.
+const INPUT: usize = 262144;
+
+const SIZE: usize = 1024;
+
+// The position after the next space or line end.
+fn after_word(s: &[u8], at: usize) -> usize {
+    let mut i = at;
+    while i < s.len() {
+        if s[i] == b' ' || s[i] == b'\n' {
+            return i + 1;
+        }
+        i += 1;
+    }
+    i
+}
+
+// Ten times v and a digit more, or v where that is too large.
+fn with_digit(v: u64, digit: u8) -> u64 {
+    if 1844674407370955161 < v {
+        return v;
+    }
+    let tens = 10 * v;
+    if 0xffff_ffff_ffff_ffff - tens < digit as u64 {
+        v
+    } else {
+        tens + digit as u64
+    }
+}
+
+// What a digit of up to base 16 stands for, or 16.
+fn digit(c: u8) -> u8 {
+    match c {
+        b'0'..=b'9' => c - b'0',
+        b'a'..=b'f' => c - b'a' + 10,
+        _ => 16,
+    }
+}
+
+// The decimal number at a position.
+fn number(s: &[u8], at: usize) -> u64 {
+    let mut v: u64 = 0;
+    let mut i = at;
+    while i < s.len() {
+        let d = digit(s[i]);
+        if 9 < d {
+            return v;
+        }
+        v = with_digit(v, d);
+        i += 1;
+    }
+    v
+}
+
+fn position(s: &[u8], at: usize) -> usize {
+    number(s, at) as usize
+}
+
+// The byte goes to place n, if there is room, and the answer is the next place.
+fn put(out: &mut [u8], n: usize, byte: u8) -> usize {
+    if n < out.len() {
+        out[n] = byte;
+        n + 1
+    } else {
+        n
+    }
+}
+
+fn two_digits(high: u8, low: u8) -> u8 {
+    high % 16 * 16 + low % 16
+}
+
+// The bytes of a HEX, put at the start of `out`, and how many there are.
+fn bytes(s: &[u8], at: usize, out: &mut [u8]) -> usize {
+    let mut n = 0;
+    let mut i = at;
+    while i < s.len() {
+        let high = digit(s[i]);
+        i += 1;
+        if 15 < high || s.len() <= i {
+            return n;
+        }
+        n = put(out, n, two_digits(high, digit(s[i])));
+        i += 1;
+    }
+    n
+}
+
+// The first n bytes, or all.
+fn front(s: &[u8], n: usize) -> &[u8] {
+    if n < s.len() { &s[..n] } else { s }
+}
+
+// A number that ends its line.
+fn print_last(n: usize) {
+    io::print_decimal(1, n as u64);
+    io::write_all(1, b"\n");
+}
+
+fn print_refused(question: u8, position: usize) {
+    io::write_all(1, b"refused ");
+    io::print_decimal(1, question as u64);
+    io::write_all(1, b" ");
+    print_last(position);
+}
+
+fn print_step(step: Step) {
+    match step {
+        Step::Next(next) => {
+            io::write_all(1, b"next ");
+            print_last(next);
+        }
+        Step::Refused(question, position) => print_refused(question, position),
+    }
+}
+
+fn print_field(field: Field) {
+    match field {
+        Field::Value(value, next) => {
+            io::write_all(1, b"value ");
+            io::print_decimal(1, value);
+            io::write_all(1, b" ");
+            print_last(next);
+        }
+        Field::Refused(question, position) => print_refused(question, position),
+    }
+}
+
+fn print_order(order: Order, agree: usize) {
+    match order {
+        Order::Less => {
+            io::write_all(1, b"less ");
+        }
+        Order::Equal => {
+            io::write_all(1, b"equal ");
+        }
+        Order::Greater => {
+            io::write_all(1, b"greater ");
+        }
+    }
+    print_last(agree);
+}
+
+fn print_keys(keys: KeysCompared) {
+    match keys {
+        KeysCompared::Compared(order, agree) => print_order(order, agree),
+        KeysCompared::LeftRefused(question, position) => {
+            io::write_all(1, b"left ");
+            print_refused(question, position);
+        }
+        KeysCompared::RightRefused(question, position) => {
+            io::write_all(1, b"right ");
+            print_refused(question, position);
+        }
+    }
+}
+
+fn text_line(s: &[u8], at: usize, room: &mut [u8]) {
+    let n = bytes(s, at, room);
+    print_last(text::valid_up_to(front(room, n)));
+}
+
+fn string_line(s: &[u8], first: usize, room: &mut [u8]) {
+    let second = after_word(s, first);
+    let n = bytes(s, after_word(s, second), room);
+    print_step(state_wire::string_bounded(front(room, n), position(s, second), position(s, first)));
+}
+
+fn read_number(s: &[u8], at: usize, width: u64) -> Field {
+    match width {
+        1 => state_wire::read_u8(s, at),
+        4 => state_wire::read_u32(s, at),
+        _ => state_wire::read_u64(s, at),
+    }
+}
+
+fn number_line(s: &[u8], first: usize, room: &mut [u8]) {
+    let second = after_word(s, first);
+    let n = bytes(s, after_word(s, second), room);
+    print_field(read_number(front(room, n), position(s, second), number(s, first)));
+}
+
+fn count_line(s: &[u8], first: usize, room: &mut [u8]) {
+    let second = after_word(s, first);
+    let third = after_word(s, second);
+    let n = bytes(s, after_word(s, third), room);
+    let count = number(s, first);
+    let least = number(s, second);
+    print_field(state_wire::bounded_count(front(room, n), position(s, third), count, least));
+}
+
+fn tag_line(s: &[u8], first: usize, room: &mut [u8]) {
+    let second = after_word(s, first);
+    let n = bytes(s, after_word(s, second), room);
+    let known = (number(s, first) % 256) as u8;
+    print_field(state_wire::read_tag(front(room, n), position(s, second), known));
+}
+
+fn compare(op: u8, a: &[u8], b: &[u8]) {
+    match op {
+        b'o' => {
+            let c = order::compare(a, b);
+            let o = c.order;
+            print_order(o, c.agree);
+        }
+        b'b' => print_keys(state_key_order::compare_block_keys(a, 0, b, 0)),
+        _ => print_keys(state_key_order::compare_connector_keys(a, 0, b, 0)),
+    }
+}
+
+fn pair_line(op: u8, s: &[u8], first: usize, room: &mut [u8], other: &mut [u8]) {
+    let second = after_word(s, first);
+    let n = bytes(s, first, room);
+    let m = bytes(s, second, other);
+    compare(op, front(room, n), front(other, m));
+}
+
+// The answer to a line, by its first letter and where its first word stands.
+fn answer(op: u8, s: &[u8], first: usize, room: &mut [u8], other: &mut [u8]) {
+    match op {
+        b't' => text_line(s, first, room),
+        b's' => string_line(s, first, room),
+        b'n' => number_line(s, first, room),
+        b'c' => count_line(s, first, room),
+        b'g' => tag_line(s, first, room),
+        _ => pair_line(op, s, first, room, other),
+    }
+}
+
+// The answer to the line at a position, if one begins there.
+fn line_at(begins: bool, s: &[u8], at: usize, room: &mut [u8], other: &mut [u8]) {
+    if !begins || s.len() <= at {
+        return;
+    }
+    answer(s[at], s, after_word(s, at), room, other);
+}
+
+fn lines(s: &[u8], room: &mut [u8], other: &mut [u8]) {
+    let mut begins = true;
+    let mut i = 0;
+    while i < s.len() {
+        line_at(begins, s, i, room, other);
+        begins = s[i] == b'\n';
+        i += 1;
+    }
+}
+
+fn main() {
+    let mut input = [0u8; INPUT];
+    let n = io::read_full(0, &mut input);
+    let mut room = [0u8; SIZE];
+    let mut other = [0u8; SIZE];
+    lines(&input[..n], &mut room, &mut other);
+}
