@@ -14,7 +14,8 @@ Where the expected answers come from (none comes from our own code):
      positions past the end (question 3) are from document 01's rules, in Python
   b, k  from the Rust: a key's end or its refusal from a manifest that holds the key, the order from the 'k' record (for
      b with one and the same direction and port behind both keys); the number of agreeing bytes, in Python
-  n, c, g, o  from document 01's rules, in Python
+  x  the bytes that s says the text occupies
+  f, n, c, g, o  from document 01's rules, in Python
 """
 import os
 import random
@@ -256,7 +257,16 @@ def string_answer(limit, at, b, read):
 def string_lines():
     cases = list(string_cases())
     for case, read in zip(cases, strings([b[at:] for _, at, b in cases])):
-        say(string_answer(*case, read), "s", *case)
+        answer = string_answer(*case, read)
+        say(answer, "s", *case)
+        _, at, b = case
+        say(shown(b[at + 4 : int(answer[5:])] if answer.startswith("next") else b""), "x", *case)
+
+
+def offset_lines():
+    for base in (0, 1, 2**32, 2**63, MOST - 45, MOST - 1, MOST):
+        for at in (0, 1, 44, 45, 46, 2**63, MOST):
+            say(str(min(base + at, MOST)), "f", base, at)
 
 
 # -- Numbers, counts, tags, plain order: the rules in Python -----------------------------------------------------
@@ -387,7 +397,7 @@ def connector_lines():
 
 def main():
     """Makes all lines, then writes the two files."""
-    fields = (text_lines, string_lines, number_lines, count_lines, tag_lines)
+    fields = (text_lines, string_lines, offset_lines, number_lines, count_lines, tag_lines)
     for kind in fields + (order_lines, block_lines, connector_lines):
         kind()
     folder = os.path.join(ROOT, "crates", "replay_keys")

@@ -62,6 +62,8 @@ pub fn compare(a: &[u8], b: &[u8]) -> Compared
     let mut i = same_blocks(a, b, 0, 64);
     i = same_blocks(a, b, i, 16);
     i = same_blocks(a, b, i, 8);
+    i = same_blocks(a, b, i, 4);
+    i = same_blocks(a, b, i, 2);
     while i < end {
         let x = a[i];
         let y = b[i];

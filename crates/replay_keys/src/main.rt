@@ -3,6 +3,8 @@
 //
 //   t HEX                    how many bytes are valid text:       N
 //   s LIMIT AT HEX           the string at a position:            next N, or refused QUESTION POSITION
+//   x LIMIT AT HEX           its text:                            HEX
+//   f BASE AT                the offset of a position:            N
 //   n WIDTH AT HEX           the number of 1, 4 or 8 bytes there: value V N, or refused ..
 //   c COUNT LEAST AT HEX     the test of a count read up to AT:   value V N, or refused ..
 //   g KNOWN AT HEX           the tag there:                       value V N, or refused ..
@@ -13,6 +15,7 @@ use order::Order;
 use state::Field;
 use state::Step;
 use state_key_order::KeysCompared;
+use state_wire::part;
 
 // The most bytes of standard input, and of one HEX.
 const INPUT: usize = 262144;
@@ -102,11 +105,6 @@ fn bytes(s: &[u8], at: usize, out: &mut [u8]) -> usize {
     n
 }
 
-// The first n bytes, or all.
-fn front(s: &[u8], n: usize) -> &[u8] {
-    if n < s.len() { &s[..n] } else { s }
-}
-
 // A number that ends its line.
 fn print_last(n: usize) {
     io::print_decimal(1, n as u64);
@@ -173,13 +171,45 @@ fn print_keys(keys: KeysCompared) {
 
 fn text_line(s: &[u8], at: usize, room: &mut [u8]) {
     let n = bytes(s, at, room);
-    print_last(text::valid_up_to(front(room, n)));
+    print_last(text::valid_up_to(part(room, 0, n)));
 }
 
 fn string_line(s: &[u8], first: usize, room: &mut [u8]) {
     let second = after_word(s, first);
     let n = bytes(s, after_word(s, second), room);
-    print_step(state_wire::string_bounded(front(room, n), position(s, second), position(s, first)));
+    print_step(state_wire::string_bounded(
+        part(room, 0, n),
+        position(s, second),
+        position(s, first),
+    ));
+}
+
+fn digit_of(n: u8) -> u8 {
+    let d = n % 16;
+    if d < 10 { b'0' + d } else { b'a' - 10 + d }
+}
+
+fn print_hex(s: &[u8]) {
+    if s.len() == 0 {
+        io::write_all(1, b"-");
+    }
+    for i in 0..s.len() {
+        let digits = [digit_of(s[i] / 16), digit_of(s[i])];
+        io::write_all(1, &digits);
+    }
+    io::write_all(1, b"\n");
+}
+
+fn string_text_line(s: &[u8], first: usize, room: &mut [u8]) {
+    let second = after_word(s, first);
+    let n = bytes(s, after_word(s, second), room);
+    print_hex(state_wire::string_text(part(room, 0, n), position(s, second), position(s, first)));
+}
+
+fn offset_line(s: &[u8], first: usize) {
+    let at = position(s, after_word(s, first));
+    io::print_decimal(1, state_wire::offset(number(s, first), at));
+    io::write_all(1, b"\n");
 }
 
 fn read_number(s: &[u8], at: usize, width: u64) -> Field {
@@ -193,7 +223,7 @@ fn read_number(s: &[u8], at: usize, width: u64) -> Field {
 fn number_line(s: &[u8], first: usize, room: &mut [u8]) {
     let second = after_word(s, first);
     let n = bytes(s, after_word(s, second), room);
-    print_field(read_number(front(room, n), position(s, second), number(s, first)));
+    print_field(read_number(part(room, 0, n), position(s, second), number(s, first)));
 }
 
 fn count_line(s: &[u8], first: usize, room: &mut [u8]) {
@@ -202,14 +232,14 @@ fn count_line(s: &[u8], first: usize, room: &mut [u8]) {
     let n = bytes(s, after_word(s, third), room);
     let count = number(s, first);
     let least = number(s, second);
-    print_field(state_wire::bounded_count(front(room, n), position(s, third), count, least));
+    print_field(state_wire::bounded_count(part(room, 0, n), position(s, third), count, least));
 }
 
 fn tag_line(s: &[u8], first: usize, room: &mut [u8]) {
     let second = after_word(s, first);
     let n = bytes(s, after_word(s, second), room);
     let known = (number(s, first) % 256) as u8;
-    print_field(state_wire::read_tag(front(room, n), position(s, second), known));
+    print_field(state_wire::read_tag(part(room, 0, n), position(s, second), known));
 }
 
 fn compare(op: u8, a: &[u8], b: &[u8]) {
@@ -228,7 +258,7 @@ fn pair_line(op: u8, s: &[u8], first: usize, room: &mut [u8], other: &mut [u8]) 
     let second = after_word(s, first);
     let n = bytes(s, first, room);
     let m = bytes(s, second, other);
-    compare(op, front(room, n), front(other, m));
+    compare(op, part(room, 0, n), part(other, 0, m));
 }
 
 // The answer to a line, by its first letter and where its first word stands.
@@ -236,6 +266,8 @@ fn answer(op: u8, s: &[u8], first: usize, room: &mut [u8], other: &mut [u8]) {
     match op {
         b't' => text_line(s, first, room),
         b's' => string_line(s, first, room),
+        b'x' => string_text_line(s, first, room),
+        b'f' => offset_line(s, first),
         b'n' => number_line(s, first, room),
         b'c' => count_line(s, first, room),
         b'g' => tag_line(s, first, room),

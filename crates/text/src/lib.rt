@@ -158,6 +158,17 @@ fn ascii_blocks(s: &[u8], from: usize, n: usize) -> usize
     at
 }
 
+// The same with the largest blocks first.
+fn skip_ascii(s: &[u8], from: usize) -> usize
+    requires { ⌜ from ≤ length (now s) ⌝ }
+    ensures { λ r. ⌜ (from ≤ r) × (r ≤ length (now (s .entry))) × (validFrom (now (s .entry)) r ≡ validFrom (now (s .entry)) from) ⌝ }
+{
+    let mut at = ascii_blocks(s, from, 64);
+    at = ascii_blocks(s, at, 32);
+    at = ascii_blocks(s, at, 16);
+    ascii_blocks(s, at, 8)
+}
+
 // So many octets further on, or the end.
 fn ahead(at: usize, n: usize, end: usize) -> usize
     requires { ⌜ at ≤ end ⌝ }
@@ -172,9 +183,7 @@ pub fn valid_up_to(s: &[u8]) -> usize
 {
     let mut at = 0;
     while at < s.len() {
-        at = ascii_blocks(s, at, 64);
-        at = ascii_blocks(s, at, 16);
-        at = ascii_blocks(s, at, 8);
+        at = skip_ascii(s, at);
         let stop = ahead(at, 64, s.len());
         while at < stop {
             let w = char_width(s, at);

@@ -25,8 +25,14 @@ same-blocks-requires-2 c κs = (omega arith, c .same-blocks .ensures)
 same-blocks-requires-3 : tie.Need-same-blocks-requires-3 Inv-loop μ-loop
 same-blocks-requires-3 c κs = (omega arith, c .same-blocks2 .ensures)
 
+same-blocks-requires-4 : tie.Need-same-blocks-requires-4 Inv-loop μ-loop
+same-blocks-requires-4 c κs = (omega arith, c .same-blocks3 .ensures)
+
+same-blocks-requires-5 : tie.Need-same-blocks-requires-5 Inv-loop μ-loop
+same-blocks-requires-5 c κs = (omega arith, c .same-blocks4 .ensures)
+
 loop-holds : tie.Need-loop-holds Inv-loop μ-loop
-loop-holds c = c .same-blocks3 .ensures
+loop-holds c = c .same-blocks5 .ensures
 
 shared-slice-read-x : tie.Need-shared-slice-read-x Inv-loop μ-loop
 shared-slice-read-x c = omega arith
@@ -49,7 +55,7 @@ loop-less c = omega arith
 loop-again : tie.Need-loop-again Inv-loop μ-loop
 loop-again c =
     let l = c .before .before .before .before .before .loop in
-    let r = c .before .before .before .before .before .before .before .before .before .before .before .before .args in
+    let r = c .before .before .before .before .before .before .before .before .before .before .before .before .before .before .args in
     (omega arith, omega arith, one-more (r .a .now) (r .b .now) (l .i) (l .inv .2) (omega arith) (omega arith) (omega arith))
 
 returns-3 : tie.Need-returns-3 Inv-loop μ-loop
@@ -71,6 +77,8 @@ compare-spec =
     same-blocks-requires
     same-blocks-requires-2
     same-blocks-requires-3
+    same-blocks-requires-4
+    same-blocks-requires-5
     loop-holds
     shared-slice-read-x
     shared-slice-read-y

@@ -22,20 +22,14 @@ abbrev μ-loop : tie.MeasureT-loop
 loop-holds : tie.Need-loop-holds Inv-loop2 μ-loop2 Inv-loop μ-loop
 loop-holds c = (omega arith, omega arith)
 
-ascii-blocks-requires : tie.Need-ascii-blocks-requires Inv-loop2 μ-loop2 Inv-loop μ-loop
-ascii-blocks-requires c κs = (omega arith, omega arith)
-
-ascii-blocks-requires-2 : tie.Need-ascii-blocks-requires-2 Inv-loop2 μ-loop2 Inv-loop μ-loop
-ascii-blocks-requires-2 c κs = (omega arith, omega arith)
-
-ascii-blocks-requires-3 : tie.Need-ascii-blocks-requires-3 Inv-loop2 μ-loop2 Inv-loop μ-loop
-ascii-blocks-requires-3 c κs = (omega arith, omega arith)
+skip-ascii-requires : tie.Need-skip-ascii-requires Inv-loop2 μ-loop2 Inv-loop μ-loop
+skip-ascii-requires c κs = omega arith
 
 ahead-requires : tie.Need-ahead-requires Inv-loop2 μ-loop2 Inv-loop μ-loop
 ahead-requires c κs = omega arith
 
 loop2-holds : tie.Need-loop2-holds Inv-loop2 μ-loop2 Inv-loop μ-loop
-loop2-holds c = (omega arith, omega arith, c .before .ascii-blocks3 .ensures .2 ∙ c .before .before .ascii-blocks2 .ensures .2 ∙ c .before .before .before .ascii-blocks .ensures .2 ∙ c .before .before .before .before .before .loop .inv .1)
+loop2-holds c = (omega arith, omega arith, c .before .skip-ascii .ensures .2 ∙ c .before .before .before .loop .inv .1)
 
 loop-less : tie.Need-loop-less Inv-loop2 μ-loop2 Inv-loop μ-loop
 loop-less c = omega arith
@@ -70,9 +64,7 @@ valid-up-to-spec =
     Inv-loop
     μ-loop
     loop-holds
-    ascii-blocks-requires
-    ascii-blocks-requires-2
-    ascii-blocks-requires-3
+    skip-ascii-requires
     ahead-requires
     loop2-holds
     loop-less
