@@ -3,12 +3,12 @@ use Prim.Native.Nat.{ℕ, zero, suc, _+_, _*_, _-_, _^_, _≤_, _<_}
 use native.Mathlib.Omega.{arith}
 use native.Mathlib.Decide.{decLe}
 use mathlib.Core.Path.{_≡_, refl, sym, ap, _∙_, subst}
-use mathlib.Core.Bool.{Bool, true, _&&_}
+use mathlib.Core.Bool.{true, _&&_}
 use mathlib.Core.List.{List, [], _∷_, _++_, map}
 use lib.ListN.{length, drop}
 use lib.Dec.{ltb, leb, eqb}
 use borrow.Author.Tests.{leb-true, ltb-true, eqb-true}
-use Rattle.state.specs.Bytes.{AreBytes, span, numberOf, bytesOf}
+use Rattle.state.specs.Bytes.{AreBytes, span, bytesOf}
 use Rattle.state.specs.Outcome.{Outcome, got}
 use Rattle.state.proofs.Bytes.{Part, span-length, span-drop, part-here, part-nil, part-join, bytes-span, number-bytes, number-below}
 use Rattle.state.proofs.Outcome.{Yields, this, always, yielded, yields-so, yields-ask, yields-bind}

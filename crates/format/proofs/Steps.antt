@@ -1,10 +1,8 @@
 -- What the code that walks over the bytes cites: a format's reading with the value forgotten, from what its callees answered.
-use Prim.Native.Nat.{ℕ, _+_, _≤_, _<_}
-use native.Mathlib.Omega.{arith}
-use mathlib.Core.Path.{_≡_, refl, sym, ap, _∙_}
+use Prim.Native.Nat.{ℕ}
+use mathlib.Core.Path.{_≡_, sym, ap, _∙_}
 use mathlib.Core.List.{List}
-use lib.ListN.{length}
-use Rattle.state.specs.Outcome.{Outcome, got, stepOf, fieldOf, stepOfField}
+use Rattle.state.specs.Outcome.{got, stepOf, fieldOf, stepOfField}
 use Rattle.state.specs.declared.Step.{Step}
 use Rattle.state.specs.declared.Step.the-variants as step
 use Rattle.state.specs.declared.Field.{Field}

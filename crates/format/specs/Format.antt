@@ -1,10 +1,10 @@
 -- A universe of formats: what the values of a format are, how bytes are read as one, and how one is written.
 use Prim.Native.Nat.{ℕ, zero, suc, _+_}
 use mathlib.Core.List.{List, [], _∷_, _++_}
-use mathlib.Core.Bool.{Bool, true, false}
+use mathlib.Core.Bool.{Bool, true}
 use lib.ListN.{length, getD}
 use Rattle.state.specs.Bytes.{span, bytesOf}
-use Rattle.state.specs.Outcome.{Outcome, got, refused, bind, ask, stepOf}
+use Rattle.state.specs.Outcome.{Outcome, got, bind, ask, stepOf}
 use Rattle.state.specs.declared.Step.{Step}
 use Rattle.state_wire.specs.Fields.{readNumber, readTag, readCount, readText}
 use Rattle.format.specs.Lists.{before, allDifferent}

@@ -3,10 +3,6 @@ use Prim.Native.Nat.{ℕ, zero, suc}
 use mathlib.Core.List.{List, [], _∷_}
 use Rattle.format.specs.Format.{Fmt, number, tag, text, _then_, choice, El}
 
--- document 01: the highest limit of a string
-abbrev pub maxSnapshotBytes : ℕ
-maxSnapshotBytes = 67108864
-
 -- state_manifest_codec.rs, `read_block_key`: tag 0, authored, with its name; tag 1, passed through, with the paths in and out.
 -- "Block-key tag 2 is always refused"
 unfoldable pub blockKey : Fmt

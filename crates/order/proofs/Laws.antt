@@ -2,7 +2,7 @@
 -- `agreeing` is the length of the longest front that two lists share, and what stands there decides.
 -- Assumes nothing.
 use Prim.Native.Nat.{ℕ, suc, _≤_, _<_}
-use mathlib.Core.List.{List, [], _∷_, _++_, append-nil}
+use mathlib.Core.List.{List, _∷_, _++_, append-nil}
 use mathlib.Core.Logic.{_↔_}
 use mathlib.Core.Path.{_≡_, refl, sym, ap₂, _∙_}
 use native.Mathlib.Nat.{lt-trans}
@@ -115,11 +115,3 @@ module _ (a b x y : List ℕ) where
   -- so it is for first parts of one length
   pub lex-append : length a ≡ length b → lexCompare (a ++ x) (b ++ y) ≡ thenWith (lexCompare a b) (lexCompare x y)
   lex-append h = lex-parts (omega arith)
-
-  -- and for first parts that differ before either ends
-  pub lex-append-apart : agreeing a b < length a → agreeing a b < length b → lexCompare (a ++ x) (b ++ y) ≡ thenWith (lexCompare a b) (lexCompare x y)
-  lex-append-apart h k = lex-parts (omega arith)
-
--- a common front decides nothing
-pub lex-append-same : (a x y : List ℕ) → lexCompare (a ++ x) (a ++ y) ≡ lexCompare x y
-lex-append-same a x y = only (behind a (graph x y)) .0

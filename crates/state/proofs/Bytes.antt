@@ -2,11 +2,11 @@
 use Prim.Native.Nat.{ℕ, zero, suc, _+_, _*_, _-_, _/_, _%_, _^_, _≤_, _<_}
 use native.Mathlib.Numerals.{add-one}
 use native.Mathlib.Omega.{arith}
-use native.Mathlib.Nat.{add-sub-cancel-left, pow-suc, sub-self, sub-zero, zero-sub, suc-sub-suc}
-use mathlib.Core.Path.{_≡_, refl, sym, ap, _∙_, subst}
+use native.Mathlib.Nat.{pow-suc, sub-self, sub-zero, zero-sub, suc-sub-suc}
+use mathlib.Core.Path.{_≡_, refl, sym, ap, _∙_}
 use mathlib.Core.List.{List, [], _∷_, _++_}
-use lib.ListN.{length, getD, take, drop, length-append, length-take, length-drop, drop-of-length-le}
-use lib.Seq.{take-all, take-add, drop-drop, take-append-seam, drop-append-seam, take-take, take-nil, drop-cons, length-take-le, take-append-le}
+use lib.ListN.{length, getD, take, drop, length-append, length-drop, drop-of-length-le}
+use lib.Seq.{take-all, take-add, drop-drop, take-nil, drop-cons, length-take-le}
 use Rattle.state.specs.Bytes.{AreBytes, span, numberOf, bytesOf}
 
 -- x stands in s from a up to b
@@ -47,44 +47,6 @@ module _ (s : List ℕ) where
           ∙ ap (λ (l : List ℕ). l ++ take (c - b) (drop (b - a) (drop a s))) (p .is)
           ∙ ap (λ (l : List ℕ). x ++ take (c - b) l) (drop-drop (b - a) a s ∙ ap (λ (k : ℕ). drop k s) e2)
           ∙ ap (λ (l : List ℕ). x ++ l) (q .is)
-
-module _ (s : List ℕ) {a c : ℕ} (x y : List ℕ) (p : Part s a c (x ++ y)) where
-  cut-ends : c ≡ a + length x + length y
-  cut-ends = omega (arith, length-append x y, p .ends)
-
-  whole : take (length x + length y) (drop a s) ≡ x ++ y
-  whole =
-      let e : length x + length y ≡ c - a = omega (arith, cut-ends) in
-      ap (λ (k : ℕ). take k (drop a s)) e ∙ p .is
-
-  front : take (length x) (drop a s) ≡ x
-  front =
-      sym (take-take (length x) (length x + length y) (drop a s) (omega arith))
-      ∙ ap (λ (l : List ℕ). take (length x) l) whole ∙ take-append-seam x y
-
-  pub part-front : Part s a (a + length x) x
-  part-front = record {
-    ends = refl;
-    within = omega (arith, cut-ends, p .within);
-    is = ap (λ (k : ℕ). take k (drop a s)) (add-sub-cancel-left a (length x)) ∙ front;
-  }
-
-  pub part-back : Part s (a + length x) c y
-  part-back = record { ends = cut-ends; within = p .within; is = back }
-    where
-      e : x ++ take (length y) (drop (a + length x) s) ≡ x ++ y
-      e =
-          ap (λ (l : List ℕ). l ++ take (length y) (drop (a + length x) s)) (sym front)
-          ∙ ap (λ (l : List ℕ). take (length x) (drop a s) ++ take (length y) l) (sym (drop-drop (length x) a s))
-          ∙ sym (take-add (length x) (length y) (drop a s)) ∙ whole
-
-      n : c - (a + length x) ≡ length y
-      n = omega (arith, cut-ends)
-
-      back : span s (a + length x) c ≡ y
-      back =
-          ap (λ (k : ℕ). take k (drop (a + length x) s)) n
-          ∙ sym (drop-append-seam x (take (length y) (drop (a + length x) s))) ∙ ap (drop (length x)) e ∙ drop-append-seam x y
 
 pub span-cons : (s : List ℕ) (a b : ℕ) → a < b → b ≤ length s → span s a b ≡ getD s a 0 ∷ span s (a + 1) b
 span-cons s a b h k =
@@ -138,16 +100,6 @@ span-drop s j a b = ap (λ (k : ℕ). take k (drop (a + j) s)) e ∙ ap (take (b
     drop-take (suc j) zero l = sym (ap (λ (k : ℕ). take k (drop (suc j) l)) (zero-sub (suc j)))
     drop-take (suc j) (suc n) [] = sym (take-nil (suc n - suc j))
     drop-take (suc j) (suc n) (x ∷ xs) = drop-take j n xs ∙ ap (λ (k : ℕ). take k (drop j xs)) (sym (suc-sub-suc n j))
-
-pub part-mid : (pre x post : List ℕ) → Part (pre ++ (x ++ post)) (length pre) (length pre + length x) x
-part-mid pre x post = record {
-  ends = refl;
-  within = simp length-append (omega arith);
-  is = rw (add-sub-cancel-left (length pre) (length x), drop-append-seam pre (x ++ post), take-append-seam x post);
-}
-
-pub part-first : (x post : List ℕ) → Part (x ++ post) 0 (length x) x
-part-first x post = record { ends = omega arith; within = simp length-append (omega arith); is = rw (sub-zero (length x), take-append-seam x post) }
 
 bytes-tail : (x : ℕ) (xs : List ℕ) → AreBytes (x ∷ xs) → AreBytes xs
 bytes-tail x xs h i = h (suc i)

@@ -27,14 +27,10 @@ pub step-refused : {A : Type 0} (o : Outcome A) {r : Step} {q p : ℕ} → r ≡
 step-refused (got a m) p q = let z : _≡_ {A = ℕ} 0 1 = cc in absurd (omega arith)
 step-refused (refused a m) p q = let e : step.Refused a m ≡ _ = sym p ∙ q in cc
 
--- the value forgotten: go on from where a step ended; the question q, at p: yes goes on
+-- the value forgotten: go on from where a step ended
 abbrev pub onward : Step → (ℕ → Step) → Step
 onward (step.Next n) k = k n
 onward (step.Refused q p) k = step.Refused q p
-
-abbrev pub asked : Bool → ℕ → ℕ → Step → Step
-asked true q p k = k
-asked false q p k = step.Refused q p
 
 module _ {A B : Type 0} where
   pub step-bind : (o : Outcome A) (k : ℕ → Step) (f : A → ℕ → Outcome B) → ((a : A) (n : ℕ) → stepOf (f a n) ≡ k n) → stepOf (bind o f) ≡ onward (stepOf o) k
@@ -44,10 +40,6 @@ module _ {A B : Type 0} where
   pub step-keeps : (o : Outcome A) (f : A → B) → stepOf (bind o (λ a n. got (f a) n)) ≡ stepOf o
   step-keeps (got a n) f = refl
   step-keeps (refused q p) f = refl
-
-pub step-ask : {A : Type 0} (b : Bool) (q p : ℕ) (o : Outcome A) → stepOf (ask b q p o) ≡ asked b q p (stepOf o)
-step-ask true q p o = refl
-step-ask false q p o = refl
 
 -- P of what was read, where something was
 pub data Yields {A : Type 0} (P : A → ℕ → Type 0) : Outcome A → Type 0 where

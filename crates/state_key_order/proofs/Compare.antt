@@ -1,16 +1,17 @@
 -- Comparing the bytes that two keys occupy is comparing the keys, for every format whose values compare as they are written.
 use Prim.Native.Nat.{ℕ, _≤_}
-use mathlib.Core.Path.{_≡_, refl, sym, _∙_}
+use mathlib.Core.Path.{_≡_, refl}
 use mathlib.Core.List.{List, [], _∷_}
 use lib.ListN.{length, getD}
 use Rattle.state.specs.Bytes.{AreBytes}
-use Rattle.state.specs.Outcome.{Outcome, got, refused, stepOf}
+use Rattle.state.specs.Outcome.{Outcome, stepOf}
 use Rattle.state.proofs.Outcome.{Yields, this, nothing}
+use Rattle.state_wire.specs.Fields.{maxSnapshotBytes}
 use Rattle.order.specs.declared.Order.{Order}
 use Rattle.order.specs.Lex.{lexCompare}
 use Rattle.format.specs.Format.{Fmt, done, number, text, _then_, El, read, encode, scan}
 use Rattle.format.specs.Admits.{Holds}
-use Rattle.format.specs.Keys.{maxSnapshotBytes, blockKey, wireDir, connectorKey}
+use Rattle.format.specs.Keys.{blockKey, wireDir, connectorKey}
 use Rattle.format.proofs.Sound.{Stands, sound-inside, inside-tagged, inside-then}
 use Rattle.state_key_order.specs.KeyOrder.{blockKeyCmp, connectorKeyCmp}
 use Rattle.state_key_order.specs.Compare.{comparedBy, blockKeysCompared, connectorKeysCompared, spansCompared}

@@ -7,12 +7,12 @@ use Rattle.state.specs.Bytes.{numberOf, bytesOf}
 use Rattle.state.specs.declared.Step.{Step}
 use Rattle.state.specs.declared.Step.the-variants.{Next, Refused}
 use Rattle.text.specs.Valid.{validUpTo}
-use Rattle.state_wire.specs.Fields.{readSpan, readNumber, readTag, readText}
+use Rattle.state_wire.specs.Fields.{readSpan, readNumber, readTag, readText, maxSnapshotBytes}
 use Rattle.order.specs.declared.Order.the-variants.{Less, Equal}
 use Rattle.order.specs.Lex.{lexCompare}
 use Rattle.order.proofs.Laws.{lex-refl}
 use Rattle.format.specs.Format.{Fmt, El, read, scan}
-use Rattle.format.specs.Keys.{maxSnapshotBytes, blockKey, connectorKey, keyTag, keyStrings, owner, direction, portIndex}
+use Rattle.format.specs.Keys.{blockKey, connectorKey, keyTag, keyStrings, owner, direction, portIndex}
 use Rattle.state_key_order.specs.KeyOrder.{wireStringsCmp, blockKeyCmp, connectorKeyCmp}
 
 -- "length 256 (00 01 00 00) comes before length 1"
@@ -38,8 +38,8 @@ keys =
     (blockKey, [], Refused 3 0)
     ∷ (blockKey, 2 ∷ [], Refused 6 1)
     ∷ (blockKey, 0 ∷ 1 ∷ 0 ∷ 0 ∷ [], Refused 3 1)
-    ∷ (blockKey, 0 ∷ 1 ∷ 0 ∷ 0 ∷ 4 ∷ 97 ∷ [], Refused 4 1) -- length 67,108,865
-    ∷ (blockKey, 0 ∷ 0 ∷ 0 ∷ 0 ∷ 4 ∷ 97 ∷ [], Refused 3 5) -- and 67,108,864
+    ∷ (blockKey, 0 ∷ 1 ∷ 0 ∷ 0 ∷ 4 ∷ 97 ∷ [], Refused 4 1)  -- length 67,108,865
+    ∷ (blockKey, 0 ∷ 0 ∷ 0 ∷ 0 ∷ 4 ∷ 97 ∷ [], Refused 3 5)  -- and 67,108,864
     ∷ (blockKey, 0 ∷ 2 ∷ 0 ∷ 0 ∷ 0 ∷ 97 ∷ 128 ∷ [], Refused 5 6)
     ∷ (blockKey, 0 ∷ 2 ∷ 0 ∷ 0 ∷ 0 ∷ 195 ∷ 164 ∷ 98 ∷ [], Next 7)
     ∷ (blockKey, 1 ∷ 0 ∷ 0 ∷ 0 ∷ 0 ∷ 1 ∷ 0 ∷ 0 ∷ 0 ∷ 98 ∷ [], Next 10)

@@ -13,7 +13,7 @@ use Rattle.order.proofs.Laws.{lex-append, lex-equal-iff}
 use Rattle.format.specs.Format.{text, El, encode}
 use Rattle.format.specs.Admits.{Holds}
 use Rattle.format.specs.Keys.{blockKey, connectorKey, keyTag, keyStrings, owner, direction, portIndex}
-use Rattle.state_key_order.specs.KeyOrder.{byteCmp, wireStringCmp, wireStringsCmp, blockKeyCmp, connectorKeyCmp}
+use Rattle.state_key_order.specs.KeyOrder.{wireStringCmp, wireStringsCmp, blockKeyCmp, connectorKeyCmp}
 
 then-assoc : (o p q : Order) → thenWith (thenWith o p) q ≡ thenWith o (thenWith p q)
 then-assoc Less p q = refl

@@ -5,10 +5,11 @@ use Rattle.state.specs.Bytes.{span}
 use Rattle.state.specs.Outcome.{Outcome, got, refused}
 use Rattle.state.specs.declared.Step.{Step}
 use Rattle.state.specs.declared.Step.the-variants as step
+use Rattle.state_wire.specs.Fields.{maxSnapshotBytes}
 use Rattle.order.specs.declared.Order.{Order}
 use Rattle.order.specs.Lex.{lexCompare, agreeing}
-use Rattle.format.specs.Format.{El, read, encode}
-use Rattle.format.specs.Keys.{maxSnapshotBytes, blockKey, connectorKey}
+use Rattle.format.specs.Format.{read, encode}
+use Rattle.format.specs.Keys.{blockKey, connectorKey}
 use Rattle.state_key_order.specs.declared.KeysCompared.{KeysCompared}
 use Rattle.state_key_order.specs.declared.KeysCompared.the-variants.{Compared, LeftRefused, RightRefused}
 use Rattle.state_key_order.specs.KeyOrder.{blockKeyCmp, connectorKeyCmp}

@@ -11,7 +11,8 @@ use state_wire::step_of;
 use state_wire::string;
 ghost use mathlib.Core.Path.{_≡_};
 ghost use Rattle.format.specs.Format.{scan};
-ghost use Rattle.format.specs.Keys.{maxSnapshotBytes, blockKey, connectorKey};
+ghost use Rattle.state_wire.specs.Fields.{maxSnapshotBytes};
+ghost use Rattle.format.specs.Keys.{blockKey, connectorKey};
 ghost use Rattle.state_key_order.specs.Compare.{blockKeysCompared, connectorKeysCompared, spansCompared};
 
 // The order of two keys and how many of their bytes agree; or the first key that is no whole one, with question and position.

@@ -1,14 +1,14 @@
 -- What each test of the code says of a field's reading: question by question, over any width, size and limit.
 use Prim.Native.Nat.{ℕ, _+_, _*_, _-_, _≤_, _<_}
 use native.Mathlib.Omega.{arith}
-use mathlib.Core.Path.{_≡_, refl, sym, ap, subst, _∙_}
+use mathlib.Core.Path.{_≡_, refl, sym, ap, _∙_}
 use mathlib.Core.Bool.{Bool, true, false}
 use mathlib.Core.List.{List, []}
 use lib.ListN.{length}
 use lib.Dec.{ltb, leb, eqb}
 use borrow.Author.Tests.{leb-true, leb-false, ltb-true, le-leb, lt-leb, lt-ltb, le-ltb, eq-eqb, ne-eqb}
 use Rattle.state.specs.Bytes.{span, numberOf}
-use Rattle.state.specs.Outcome.{Outcome, got, refused, bind, ask, stepOf, fieldOf, stepOfField}
+use Rattle.state.specs.Outcome.{got, refused, stepOf, fieldOf, stepOfField}
 use Rattle.state.specs.declared.Step.{Step}
 use Rattle.state.specs.declared.Step.the-variants as step
 use Rattle.state.specs.declared.Field.{Field}
@@ -17,7 +17,7 @@ use Rattle.state.proofs.Bytes.{span-length}
 use Rattle.state.proofs.Outcome.{value-got, value-refused, step-refused, step-yields, value-yields, Yields, this, yields-ask, yields-bind}
 use Rattle.text.specs.Valid.{validUpTo}
 use Rattle.text.proofs.Steps.{valid-within}
-use Rattle.state_wire.specs.Fields.{readSpan, readNumber, readTag, boundedCount, readCount, readText, textOf}
+use Rattle.state_wire.specs.Fields.{readSpan, readNumber, readTag, boundedCount, readText, textOf}
 
 -- ---- question 3: the bytes of a field, and a number of any width
 module _ (n : ℕ) (s : List ℕ) (at : ℕ) where

@@ -26,6 +26,10 @@ boundedCount least s n next = ask (leb (n * least) (length s - next)) 7 next (go
 unfoldable pub readCount : (width least : ℕ) → List ℕ → ℕ → Outcome ℕ
 readCount w least s at = bind (readNumber w s at) (boundedCount least s)
 
+-- the highest limit of a string, and the longest manifest
+abbrev pub maxSnapshotBytes : ℕ
+maxSnapshotBytes = 67108864
+
 -- "A string is two fields, a u32 length and a text of that many bytes." Its length is asked 3, then "4. String length within 67,108,864?
 -- 4, at the length", here within a limit; its text 3, then "5. Text valid? 5, at the end of the valid prefix"
 unfoldable pub readText : (limit : ℕ) → List ℕ → ℕ → Outcome (List ℕ)

@@ -3,13 +3,12 @@ use state::Field;
 use state::MAX_SNAPSHOT_BYTES;
 use state::Step;
 ghost use mathlib.Core.Path.{_≡_};
-ghost use mathlib.Core.List.{[], _∷_};
 ghost use Prim.Native.Nat.{_+_, _*_, _-_, _≤_};
 ghost use lib.ListN.{length};
 ghost use lib.Dec.{leb};
 ghost use Rattle.state.specs.Bytes.{span, numberOf};
 ghost use Rattle.state.specs.Outcome.{stepOf, fieldOf, stepOfField, offsetOf};
-ghost use Rattle.state_wire.specs.Fields.{readSpan, readNumber, readTag, boundedCount, readText, textOf};
+ghost use Rattle.state_wire.specs.Fields.{readSpan, readNumber, readTag, boundedCount, readText, textOf, maxSnapshotBytes};
 
 // The offset of a position: it stops at the largest number.
 pub fn offset(base: u64, position: usize) -> u64
@@ -182,7 +181,7 @@ pub fn string_bounded(s: &[u8], at: usize, limit: usize) -> Step
 }
 
 pub fn string(s: &[u8], at: usize) -> Step
-    ensures { λ r. ⌜ r ≡ stepOf (readText 67108864 (now (s .entry)) at) ⌝ }
+    ensures { λ r. ⌜ r ≡ stepOf (readText maxSnapshotBytes (now (s .entry)) at) ⌝ }
 {
     string_bounded(s, at, MAX_SNAPSHOT_BYTES)
 }

@@ -1,6 +1,5 @@
 use native.Mathlib.Omega.{arith}
 use native.Mathlib.Nat.{mul-zero}
-use Prim.Native.Nat.{_*_}
 use Rattle.state_wire.proofs.Fields.{count-within, count-over}
 use native.Mathlib.Nat.{le-div-iff-mul-le, lt-of-not-le, not-le-of-lt}
 use borrow.Author.Needs.{needs}

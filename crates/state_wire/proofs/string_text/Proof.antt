@@ -1,5 +1,4 @@
 use Rattle.state_wire.proofs.Fields.{text-ends, text-part, text-none}
-use Rattle.state.proofs.Bytes.{span-none}
 use mathlib.Core.Path.{_∙_}
 use native.Mathlib.Omega.{arith}
 use borrow.Author.Needs.{needs}

@@ -1,6 +1,6 @@
 use mathlib.Core.Path.{refl}
 use Rattle.state.proofs.Bytes.{number-cons, number-none}
-use Prim.Native.Nat.{ℕ, _+_}
+use Prim.Native.Nat.{_+_}
 use denote.Ref.{now}
 use native.Mathlib.Omega.{arith}
 use borrow.Author.Needs.{needs}
