@@ -1,4 +1,6 @@
--- Laws of the definitions: `Steps` for the code, `Theorems` for the reader, `Examples` of RFC 3629.
+-- Laws of the definitions: `Steps`, `Octets` and `Blocks` for the code, `Theorems` for the reader, `Examples` of RFC 3629.
 pub mod Steps
+pub mod Octets
+pub mod Blocks
 pub mod Theorems
 mod Examples

@@ -2,7 +2,7 @@
 -- Assumes nothing.
 use Prim.Native.Nat.{ℕ, zero, suc, _+_, _*_, _-_, _/_, _%_, _^_, _≤_, _<_}
 use mathlib.Core.List.{List, [], _∷_}
-use mathlib.Core.Bool.{Bool, true, false, _&&_}
+use mathlib.Core.Bool.{Bool, true, false, _&&_, and-false}
 use mathlib.Core.Logic.{_⊎_, inl, inr, ⊎-elim}
 use mathlib.Core.Path.{_≡_, refl, sym, ap, subst, _∙_}
 use lib.ListN.{length, getD, drop, length-drop, drop-of-length-le}
@@ -11,9 +11,17 @@ use lib.Dec.{ltb, leb, eqb}
 use native.Mathlib.Nat.{zero-add, add-zero, suc-add, add-suc}
 use native.Mathlib.Numerals.{add-one}
 use native.Mathlib.Omega.{arith}
-use borrow.Author.Tests.{lt-ltb, le-ltb, le-leb, lt-leb, eq-eqb, ne-eqb}
+use borrow.Author.Tests.{ltb-true, ltb-false, eqb-false, lt-ltb, le-ltb, le-leb, lt-leb, eq-eqb, ne-eqb}
 use Rattle.text.specs.Rfc3629.{scalar, row, mark}
 use Rattle.text.specs.Valid.{lead, fits, whole, opened, charWidth, upTo, validUpTo, validFrom}
+use Rattle.text.specs.Blocks.{Passed}
+
+pub below : (a n : ℕ) → (a < n) ⊎ (n ≤ a)
+below a n = go (ltb a n) refl
+  where
+    go : (b : Bool) → ltb a n ≡ b → (a < n) ⊎ (n ≤ a)
+    go true e = inl (ltb-true a n e)
+    go false e = inr (ltb-false a n e)
 
 -- the first octets past those of a width
 abbrev pub past : ℕ → ℕ
@@ -101,8 +109,8 @@ module _ (k v : ℕ) where
   pub fits-so : row v ≡ k → scalar v ≡ true → k + 1 ≡ fits k v
   fits-so e t = rw (eq-eqb (row v) k, t, add-one)
 
-  pub fits-not : row v ≡ k → scalar v ≡ false → 0 ≡ fits k v
-  fits-not e t = rw (eq-eqb (row v) k, t)
+  pub fits-not : scalar v ≡ false → 0 ≡ fits k v
+  fits-not t = rw (t, and-false)
 
   pub fits-other : (row v ≡ k → ⊥) → 0 ≡ fits k v
   fits-other n = rw (ne-eqb (row v) k)
@@ -177,13 +185,20 @@ step (b ∷ s) (suc k) e h =
     let r = skip k s l in
     rw (e, upTo) (omega arith)
 
+-- steps, one after the other
+pub stay : (s : List ℕ) (p : ℕ) → p ≤ length s → Passed s p p
+stay s p h = record { on = omega arith; within = h; same = refl }
+
+pub onward : {s : List ℕ} {p q r : ℕ} → Passed s p q → Passed s q r → Passed s p r
+onward a b = record { on = omega arith; within = b .within; same = b .same ∙ a .same }
+
 -- a character more, at a position; no character there; the end
 module _ (s : List ℕ) (at : ℕ) where
-  pub further : at ≤ length s → (w : ℕ) → w ≡ charWidth (drop at s) → 0 < w → (at + w ≤ length s) × (validFrom s (at + w) ≡ validFrom s at)
+  pub further : at ≤ length s → (w : ℕ) → w ≡ charWidth (drop at s) → 0 < w → Passed s at (at + w)
   further h w e l =
       let b : at + w ≤ length s = omega (arith, width-within (drop at s), length-drop at s) in
       let d : validUpTo (drop at s) ≡ w + validUpTo (drop (at + w) s) = step (drop at s) w (sym e) l ∙ rw drop-drop in
-      (b, omega arith)
+      record { on = omega arith; within = b; same = omega arith }
 
   pub bad : charWidth (drop at s) ≡ 0 → at ≡ validFrom s at
   bad e = let z = stop (drop at s) e in omega arith
@@ -192,6 +207,35 @@ module _ (s : List ℕ) (at : ℕ) where
   unfolding validUpTo
   over h = let z : validUpTo (drop at s) ≡ 0 = rw (drop-of-length-le s h) in omega arith
 
+-- a character has as many octets as its first announces
+announced : (a : ℕ) (s : List ℕ) → (charWidth (a ∷ s) ≡ 0 → ⊥) → charWidth (a ∷ s) ≡ lead a
+announced a s n = go (lead a) n
+  where
+    go : (m : ℕ) → (opened m a s ≡ 0 → ⊥) → opened m a s ≡ m
+    go zero n = absurd (n refl)
+    go (suc k) n = ⊎-elim (λ e. absurd (n e)) (λ e. e .0) (whole-width k k (a - mark k) s)
+
+pub passes-ascii : (s : List ℕ) (at : ℕ) → at < length s → getD s at 0 < 0x80 → Passed s at (at + 1)
+passes-ascii s at h l = further s at (omega arith) 1 (sym (ap charWidth (from s at (at + 1) h refl) ∙ ascii (getD s at 0) (drop (at + 1) s) l)) (omega arith)
+
+module _ (s : List ℕ) (at : ℕ) (h : at < length s) (n : charWidth (drop at s) ≡ 0 → ⊥) where
+  leads : lead (getD s at 0) ≡ 0 → ⊥
+  leads e = n (ap charWidth (from s at (at + 1) h refl) ∙ opens-no (getD s at 0) (drop (at + 1) s) e)
+
+  passes : (k : ℕ) → lead (getD s at 0) ≡ suc k → Passed s at (at + suc k)
+  passes k e =
+      let f = ap charWidth (from s at (at + 1) h refl) in
+      further s at (omega arith) (suc k) (sym (f ∙ announced (getD s at 0) (drop (at + 1) s) (λ z. n (f ∙ z)) ∙ e)) (omega arith)
+
+  pub passes-two : 0x80 ≤ getD s at 0 → getD s at 0 < 0xe0 → Passed s at (at + 2)
+  passes-two g l = passes 1 (⊎-elim (λ b. absurd (leads (lead-not (getD s at 0) g b))) (λ b. lead-is 1 (getD s at 0) (omega arith) b l) (below (getD s at 0) 0xc0))
+
+  pub passes-three : 0xe0 ≤ getD s at 0 → getD s at 0 < 0xf0 → Passed s at (at + 3)
+  passes-three g l = passes 2 (lead-is 2 (getD s at 0) (omega arith) g l)
+
+  pub passes-four : 0xf0 ≤ getD s at 0 → Passed s at (at + 4)
+  passes-four g = passes 3 (⊎-elim (λ b. lead-is 3 (getD s at 0) (omega arith) g b) (λ b. absurd (leads (lead-none (getD s at 0) b))) (below (getD s at 0) 0xf8))
+
 -- octets below 0x80, each a character
 ascii-run : (n : ℕ) (s : List ℕ) → n ≤ length s → ((k : ℕ) → k < n → getD s k 0 < 0x80) → validUpTo s ≡ n + validUpTo (drop n s)
 ascii-run zero s h f = sym (zero-add (validUpTo s))
@@ -199,11 +243,11 @@ ascii-run (suc n) [] h f = absurd (omega arith)
 ascii-run (suc n) (a ∷ s) h f =
     omega (arith, step (a ∷ s) 1 (ascii a s (f 0 (omega arith))) (omega arith), ascii-run n s (omega arith) (λ k l. f (suc k) (omega arith)))
 
-pub ascii-passed : (s : List ℕ) (at n : ℕ) → at + n ≤ length s → ((k : ℕ) → k < n → getD s (at + k) 0 < 0x80) → validFrom s (at + n) ≡ validFrom s at
+pub ascii-passed : (s : List ℕ) (at n : ℕ) → at + n ≤ length s → ((k : ℕ) → k < n → getD s (at + k) 0 < 0x80) → Passed s at (at + n)
 ascii-passed s at n h f =
     let d : validUpTo (drop at s) ≡ n + validUpTo (drop (at + n) s) =
     ascii-run n (drop at s) (simp length-drop (omega arith)) (λ k l. rw getD-drop (f k l)) ∙ rw drop-drop in
-    omega arith
+    record { on = omega arith; within = h; same = omega arith }
 
 upTo-within : (k : ℕ) (s : List ℕ) → upTo k s ≤ length s
 upTo-within k [] = omega arith

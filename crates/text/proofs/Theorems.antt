@@ -12,21 +12,14 @@ use mathlib.Core.Logic.{_⊎_, inl, inr, ⊎-elim, _↔_}
 use mathlib.Core.Path.{_≡_, refl, sym, ap, subst, _∙_}
 use lib.ListN.{length, take, drop, length-append, length-take, length-drop, take-append-drop}
 use lib.Seq.{take-add, drop-at, take-length, length-take-le}
-use lib.Dec.{ltb, eqb}
+use lib.Dec.{eqb}
 use native.Mathlib.Nat.{zero-add, add-zero, suc-add, add-suc, add-sub-cancel-left}
 use native.Mathlib.Numerals.{add-one}
 use native.Mathlib.Omega.{arith}
-use borrow.Author.Tests.{ltb-true, ltb-false, eqb-true, eqb-false}
+use borrow.Author.Tests.{eqb-true, eqb-false}
 use Rattle.text.specs.Rfc3629.{scalar, row, mark, octets, encode, Text, none, char}
 use Rattle.text.specs.Valid.{lead, fits, whole, opened, charWidth, upTo, validUpTo}
-use Rattle.text.proofs.Steps.{scalar-past, past, opens, lead-not, lead-none, lead-is, least, row-is, tail-more, tail-none, fits-so, step, stop, whole-width, width-within, valid-within}
-
-below : (a n : ℕ) → (a < n) ⊎ (n ≤ a)
-below a n = go (ltb a n) refl
-  where
-    go : (b : Bool) → ltb a n ≡ b → (a < n) ⊎ (n ≤ a)
-    go true e = inl (ltb-true a n e)
-    go false e = inr (ltb-false a n e)
+use Rattle.text.proofs.Steps.{below, scalar-past, past, opens, lead-not, lead-none, lead-is, least, row-is, tail-more, tail-none, fits-so, step, stop, whole-width, width-within, valid-within}
 
 -- ---- what `charWidth` takes is an encoding
 

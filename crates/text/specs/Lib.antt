@@ -1,2 +1,3 @@
 pub mod Rfc3629
 pub mod Valid
+pub mod Blocks

@@ -3,8 +3,8 @@ use mathlib.Core.Logic.{⊎-elim}
 use borrow.Author.Count.{below-more}
 use lib.ListN.{getD}
 use Prim.Native.Nat.{ℕ, _≤_, _<_, _+_, _-_}
-use Rattle.text.proofs.high.Statement.{statement}
-use Rattle.text.proofs.high.Tie as tie
+use Rattle.text.proofs.ascii.high.Statement.{statement}
+use Rattle.text.proofs.ascii.high.Tie as tie
 
 abbrev Inv-loop : tie.InvT-loop
 Inv-loop s at n most₀ i₀ most i = (i ≤ n) × ((k : ℕ) → k < i → getD s (at + k) 0 ≤ most)

@@ -6,8 +6,8 @@ use lib.ListN.{drop, getD}
 use Rattle.text.specs.Valid.{charWidth}
 use Rattle.text.proofs.Steps.{ascii, lead-not, lead-none, opens-no, from, short-at}
 use borrow.Author.Needs.{needs}
-use Rattle.text.proofs.char_width.Statement.{statement}
-use Rattle.text.proofs.char_width.Tie as tie
+use Rattle.text.proofs.characters.char_width.Statement.{statement}
+use Rattle.text.proofs.characters.char_width.Tie as tie
 
 shared-slice-read-a : tie.Need-shared-slice-read-a
 shared-slice-read-a c = search needs

@@ -1,20 +1,19 @@
 use native.Mathlib.Omega.{arith}
-use mathlib.Core.Path.{_≡_, refl, _∙_}
 use lib.ListN.{length}
-use Prim.Native.Nat.{_≤_, _-_}
-use Rattle.text.specs.Valid.{validFrom}
-use Rattle.text.proofs.Steps.{ascii-passed}
-use Rattle.text.proofs.ascii_blocks.Statement.{statement}
-use Rattle.text.proofs.ascii_blocks.Tie as tie
+use Prim.Native.Nat.{_-_}
+use Rattle.text.specs.Blocks.{Passed}
+use Rattle.text.proofs.Steps.{stay, onward, ascii-passed}
+use Rattle.text.proofs.ascii.ascii_blocks.Statement.{statement}
+use Rattle.text.proofs.ascii.ascii_blocks.Tie as tie
 
 abbrev Inv-loop : tie.InvT-loop
-Inv-loop s from n at₀ at = (from ≤ at) × (at ≤ length s) × (validFrom s at ≡ validFrom s from)
+Inv-loop s from n at₀ at = Passed s from at
 
 abbrev μ-loop : tie.MeasureT-loop
 μ-loop s from n at₀ at = length s - at
 
 loop-holds : tie.Need-loop-holds Inv-loop μ-loop
-loop-holds c = (omega arith, omega arith, refl)
+loop-holds c = stay _ _ (omega arith)
 
 sub-loop : tie.Need-sub-loop Inv-loop μ-loop
 sub-loop c = omega arith
@@ -32,11 +31,8 @@ loop-less : tie.Need-loop-less Inv-loop μ-loop
 loop-less c = omega arith
 
 loop-again : tie.Need-loop-again Inv-loop μ-loop
-loop-again c = (
-  omega arith,
-  omega arith,
-  ascii-passed _ _ _ (omega arith) (λ k l. omega (arith, c .before .high .ensures k l)) ∙ c .before .before .before .loop .inv .2,
-)
+loop-again c =
+    onward (c .before .before .before .loop .inv) (ascii-passed _ _ _ (omega arith) (λ k l. omega (arith, c .before .high .ensures k l)))
 
 returns-2 : tie.Need-returns-2 Inv-loop μ-loop
 returns-2 c = c .before .loop .inv
