@@ -1,6 +1,6 @@
 -- Blocks of octets that are each right after the three before them: from one quiet position to another they are whole characters.
 -- Assumes nothing.
-use Prim.Native.Nat.{ℕ, zero, suc, _+_, _-_, _/_, _≤_, _<_}
+use Prim.Native.Nat.{ℕ, zero, suc, _+_, _-_, _≤_, _<_}
 use mathlib.Core.List.{List, [], _∷_}
 use mathlib.Core.Bool.{Bool, true, false, cond, not, _&&_, _||_, Bool·beq, or-true, true≢false, false≢true}
 use mathlib.Core.Logic.{_⊎_, inl, inr, ⊎-elim}
@@ -11,7 +11,7 @@ use lib.Dec.{ltb, leb, eqb}
 use native.Mathlib.Nat.{zero-add, add-zero}
 use native.Mathlib.Omega.{arith}
 use borrow.Author.Tests.{ltb-true, ltb-false, leb-true, leb-false, lt-ltb, le-leb, lt-leb, not-false}
-use Rattle.text.specs.Valid.{charWidth, validUpTo}
+use Rattle.text.specs.Valid.{validUpTo}
 use Rattle.text.specs.Blocks.{Passed, secondFrom, secondTo, Clean, Quiet, CleanAt, QuietAt, CleanUpTo, pad}
 use Rattle.text.proofs.Steps.{below, step, ascii, from}
 use Rattle.text.proofs.Octets.{taken, next, none-follows}

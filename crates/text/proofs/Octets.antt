@@ -3,7 +3,7 @@
 use Prim.Native.Nat.{ℕ, zero, suc, _+_, _*_, _-_, _/_, _%_, _≤_, _<_}
 use mathlib.Core.List.{List, [], _∷_}
 use mathlib.Core.Bool.{Bool, true, false}
-use mathlib.Core.Logic.{_⊎_, inl, inr, ⊎-elim}
+use mathlib.Core.Logic.{_⊎_, ⊎-elim}
 use mathlib.Core.Path.{_≡_, refl, sym, ap, _∙_}
 use lib.ListN.{getD}
 use lib.Dec.{eqb}
@@ -98,7 +98,7 @@ Each zero v P = P v
 Each (suc j) v P = (x : ℕ) → x < 64 → Each j (v * 64 + x) P
 
 -- the next j octets are 10xxxxxx
-abbrev pub Tails : ℕ → List ℕ → Type 0
+abbrev Tails : ℕ → List ℕ → Type 0
 Tails zero s = Unit
 Tails (suc j) [] = ⊥
 Tails (suc j) (c ∷ s) = (c / 64 ≡ 2) × Tails j s

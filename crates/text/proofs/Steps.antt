@@ -4,14 +4,14 @@ use Prim.Native.Nat.{ℕ, zero, suc, _+_, _*_, _-_, _/_, _%_, _^_, _≤_, _<_}
 use mathlib.Core.List.{List, [], _∷_}
 use mathlib.Core.Bool.{Bool, true, false, _&&_, and-false}
 use mathlib.Core.Logic.{_⊎_, inl, inr, ⊎-elim}
-use mathlib.Core.Path.{_≡_, refl, sym, ap, subst, _∙_}
+use mathlib.Core.Path.{_≡_, refl, sym, ap, _∙_}
 use lib.ListN.{length, getD, drop, length-drop, drop-of-length-le}
 use lib.Seq.{drop-cons, drop-drop, getD-drop}
-use lib.Dec.{ltb, leb, eqb}
-use native.Mathlib.Nat.{zero-add, add-zero, suc-add, add-suc}
+use lib.Dec.{ltb, eqb}
+use native.Mathlib.Nat.{zero-add}
 use native.Mathlib.Numerals.{add-one}
 use native.Mathlib.Omega.{arith}
-use borrow.Author.Tests.{ltb-true, ltb-false, eqb-false, lt-ltb, le-ltb, le-leb, lt-leb, eq-eqb, ne-eqb}
+use borrow.Author.Tests.{ltb-true, ltb-false, lt-ltb, le-ltb, le-leb, lt-leb, eq-eqb, ne-eqb}
 use Rattle.text.specs.Rfc3629.{scalar, row, mark}
 use Rattle.text.specs.Valid.{lead, fits, whole, opened, charWidth, upTo, validUpTo, validFrom}
 use Rattle.text.specs.Blocks.{Passed}
@@ -116,7 +116,7 @@ module _ (k v : ℕ) where
   fits-other n = rw (ne-eqb (row v) k)
 
 -- too few
-pub whole-short : (k j v : ℕ) (s : List ℕ) → length s < j → whole k j v s ≡ 0
+whole-short : (k j v : ℕ) (s : List ℕ) → length s < j → whole k j v s ≡ 0
 whole-short k zero v s h = absurd (omega arith)
 whole-short k (suc j) v [] h = refl
 whole-short k (suc j) v (c ∷ s) h = go (eqb (c / 64) 2) refl (whole-short k j (v * 64 + c % 64) s (omega arith))
@@ -194,7 +194,7 @@ onward a b = record { on = omega arith; within = b .within; same = b .same ∙ a
 
 -- a character more, at a position; no character there; the end
 module _ (s : List ℕ) (at : ℕ) where
-  pub further : at ≤ length s → (w : ℕ) → w ≡ charWidth (drop at s) → 0 < w → Passed s at (at + w)
+  further : at ≤ length s → (w : ℕ) → w ≡ charWidth (drop at s) → 0 < w → Passed s at (at + w)
   further h w e l =
       let b : at + w ≤ length s = omega (arith, width-within (drop at s), length-drop at s) in
       let d : validUpTo (drop at s) ≡ w + validUpTo (drop (at + w) s) = step (drop at s) w (sym e) l ∙ rw drop-drop in

@@ -1,9 +1,8 @@
 use native.Mathlib.Omega.{arith}
-use mathlib.Core.Path.{sym, _∙_, ap, refl}
+use mathlib.Core.Path.{sym, _∙_, refl}
 use Prim.Native.Nat.{_+_}
 use denote.Ref.{now}
 use lib.ListN.{drop, getD}
-use Rattle.text.specs.Valid.{charWidth}
 use Rattle.text.proofs.Steps.{ascii, lead-not, lead-none, opens-no, from, short-at}
 use borrow.Author.Needs.{needs}
 use Rattle.text.proofs.characters.char_width.Statement.{statement}

@@ -1,5 +1,4 @@
-use Rattle.text.proofs.Octets.{taken, too-low, too-high, broken-off}
-use mathlib.Core.List.{_∷_}
+use Rattle.text.proofs.Octets.{taken, too-low, too-high}
 use mathlib.Core.Path.{sym}
 use native.Mathlib.Omega.{arith}
 use borrow.Author.Needs.{needs}

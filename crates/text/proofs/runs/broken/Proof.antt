@@ -2,11 +2,9 @@ use Rattle.text.proofs.Blocks.{clean-part}
 use Rattle.text.proofs.Blocks.{clean-none, clean-next, clean-at}
 use Rattle.text.specs.Blocks.{CleanUpTo}
 use Rattle.text.proofs.Blocks.{neither}
-use Rattle.text.specs.Blocks.{CleanAt}
-use borrow.Author.Count.{below-more}
 use mathlib.Core.Path.{_≡_}
 use mathlib.Core.Bool.{false}
-use Prim.Native.Nat.{ℕ, _+_, _-_, _≤_, _<_}
+use Prim.Native.Nat.{_+_, _-_, _≤_}
 use native.Mathlib.Omega.{arith}
 use Rattle.text.proofs.runs.broken.Statement.{statement}
 use Rattle.text.proofs.runs.broken.Tie as tie
