@@ -19,11 +19,12 @@ use Rattle.format.specs.Format.{wire, plain, Rule, free, distinct, early
 use Rattle.format.specs.Admits.{shown, inOrder, All, Holds}
 
 -- the ranked bytes of a key that stands in the list are those of the key
-part-shown : {s : List ℕ} {a b : ℕ} {x : List ℕ} (u : Rule) → Part s a b x → span s (from u a) b ≡ shown u x
+pub part-shown : {s : List ℕ} {a b : ℕ} {x : List ℕ} (u : Rule) → Part s a b x → span s (from u a) b ≡ shown u x
 part-shown free p = p .is
-part-shown distinct p = p .is
+part-shown (distinct wire) p = p .is
 part-shown (early wire) p = p .is
 part-shown (late wire) p = p .is
+part-shown {s} {a} {b} (distinct plain) p = span-drop s 4 a b ∙ ap (drop 4) (p .is)
 part-shown {s} {a} {b} (early plain) p = span-drop s 4 a b ∙ ap (drop 4) (p .is)
 part-shown {s} {a} {b} (late plain) p = span-drop s 4 a b ∙ ap (drop 4) (p .is)
 

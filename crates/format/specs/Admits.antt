@@ -15,7 +15,7 @@ ranking plain k = drop 4 k
 
 abbrev pub shown : Rule → List ℕ → List ℕ
 shown free k = k
-shown distinct k = k
+shown (distinct r) k = ranking r k
 shown (early r) k = ranking r k
 shown (late r) k = ranking r k
 

@@ -18,7 +18,7 @@ pub data Rank : Type 0 where
 -- after the whole entry
 pub data Rule : Type 0 where
   free : Rule
-  distinct : Rule
+  distinct : Rank → Rule
   early : Rank → Rule
   late : Rank → Rule
 
@@ -50,14 +50,14 @@ ranked plain at = at + 4
 
 abbrev pub from : Rule → ℕ → ℕ
 from free at = at
-from distinct at = at
+from (distinct r) at = ranked r at
 from (early r) at = ranked r at
 from (late r) at = ranked r at
 
--- the keys that the next entry is held against, the last one first
+-- the keys that later ones are held against: the last one, or all of them
 abbrev pub kept : Rule → List ℕ → List (List ℕ) → List (List ℕ)
-kept free k ks = []
-kept distinct k ks = k ∷ ks
+kept free k ks = k ∷ []
+kept (distinct r) k ks = ks ++ (k ∷ [])
 kept (early r) k ks = k ∷ []
 kept (late r) k ks = k ∷ []
 
@@ -68,19 +68,19 @@ above k (l ∷ ls) = before l k
 -- what is asked after a key, after an entry, and after all entries
 abbrev pub afterKey : Rule → List ℕ → List (List ℕ) → Bool
 afterKey free k ks = true
-afterKey distinct k ks = true
+afterKey (distinct r) k ks = true
 afterKey (early r) k ks = above k ks
 afterKey (late r) k ks = true
 
 abbrev pub afterEntry : Rule → List ℕ → List (List ℕ) → Bool
 afterEntry free k ks = true
-afterEntry distinct k ks = true
+afterEntry (distinct r) k ks = true
 afterEntry (early r) k ks = true
 afterEntry (late r) k ks = above k ks
 
 abbrev pub afterAll : Rule → List (List ℕ) → Bool
 afterAll free ks = true
-afterAll distinct ks = allDifferent ks
+afterAll (distinct r) ks = allDifferent ks
 afterAll (early r) ks = true
 afterAll (late r) ks = true
 
@@ -111,6 +111,9 @@ module _ (limit : ℕ) where
   -- the same with the value forgotten: what code that walks over the bytes answers
   unfoldable pub scan : Fmt → List ℕ → ℕ → Step
   scan f s at = stepOf (read f s at)
+
+  unfoldable pub scanEntries : Rule → (key rest : Fmt) → List ℕ → (n at : ℕ) → List (List ℕ) → Step
+  scanEntries u k r s n at ks = stepOf (entries u (read k) (read r) s n at ks)
 
 -- ---- writing
 module _ {A : Type 0} where

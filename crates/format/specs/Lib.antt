@@ -1,4 +1,9 @@
 pub mod Lists
 pub mod Format
 pub mod Admits
+pub mod Pairwise
+pub mod Least
 pub mod Keys
+pub mod Manifest
+pub mod Places
+pub mod Reading

@@ -2,11 +2,11 @@
 use Prim.Native.Nat.{ℕ, zero, suc, _+_, _*_, _-_, _/_, _%_, _^_, _≤_, _<_}
 use native.Mathlib.Numerals.{add-one}
 use native.Mathlib.Omega.{arith}
-use native.Mathlib.Nat.{pow-suc, sub-self, sub-zero, zero-sub, suc-sub-suc}
+use native.Mathlib.Nat.{add-sub-cancel-left, pow-suc, sub-self, sub-zero, zero-sub, suc-sub-suc}
 use mathlib.Core.Path.{_≡_, refl, sym, ap, _∙_}
 use mathlib.Core.List.{List, [], _∷_, _++_}
 use lib.ListN.{length, getD, take, drop, length-append, length-drop, drop-of-length-le}
-use lib.Seq.{take-all, take-add, drop-drop, take-nil, drop-cons, length-take-le}
+use lib.Seq.{take-all, take-add, take-take, drop-drop, take-nil, drop-cons, length-take-le, take-append-seam, drop-append-seam}
 use Rattle.state.specs.Bytes.{AreBytes, span, numberOf, bytesOf}
 
 -- x stands in s from a up to b
@@ -100,6 +100,27 @@ span-drop s j a b = ap (λ (k : ℕ). take k (drop (a + j) s)) e ∙ ap (take (b
     drop-take (suc j) zero l = sym (ap (λ (k : ℕ). take k (drop (suc j) l)) (zero-sub (suc j)))
     drop-take (suc j) (suc n) [] = sym (take-nil (suc n - suc j))
     drop-take (suc j) (suc n) (x ∷ xs) = drop-take j n xs ∙ ap (λ (k : ℕ). take k (drop j xs)) (sym (suc-sub-suc n j))
+
+-- where two lists stand as one, the first and the second
+module _ (s : List ℕ) {a c : ℕ} (x y : List ℕ) (p : Part s a c (x ++ y)) where
+  cut-ends : c ≡ a + length x + length y
+  cut-ends = omega (arith, length-append x y, p .ends)
+
+  pub part-front : Part s a (a + length x) x
+  part-front = record {
+    ends = refl;
+    within = omega (arith, cut-ends, p .within);
+    is =
+        ap (λ (k : ℕ). take k (drop a s)) (add-sub-cancel-left a (length x))
+        ∙ sym (take-take (length x) (c - a) (drop a s) (omega (arith, cut-ends))) ∙ ap (take (length x)) (p .is) ∙ take-append-seam x y;
+  }
+
+  pub part-back : Part s (a + length x) c y
+  part-back = record { ends = cut-ends; within = p .within; is = span-drop s (length x) a c ∙ ap (drop (length x)) (p .is) ∙ drop-append-seam x y }
+
+-- what a list begins with
+pub part-first : (x y : List ℕ) → Part (x ++ y) 0 (length x) x
+part-first x y = record { ends = omega arith; within = simp length-append (omega arith); is = rw (sub-zero (length x), take-append-seam x y) }
 
 bytes-tail : (x : ℕ) (xs : List ℕ) → AreBytes (x ∷ xs) → AreBytes xs
 bytes-tail x xs h i = h (suc i)

@@ -27,10 +27,18 @@ pub step-refused : {A : Type 0} (o : Outcome A) {r : Step} {q p : ℕ} → r ≡
 step-refused (got a m) p q = let z : _≡_ {A = ℕ} 0 1 = cc in absurd (omega arith)
 step-refused (refused a m) p q = let e : step.Refused a m ≡ _ = sym p ∙ q in cc
 
--- the value forgotten: go on from where a step ended
+-- the value forgotten: go on from where a step ended, or where a question was answered yes
 abbrev pub onward : Step → (ℕ → Step) → Step
 onward (step.Next n) k = k n
 onward (step.Refused q p) k = step.Refused q p
+
+abbrev pub asked : Bool → (q p : ℕ) → Step → Step
+asked true q p k = k
+asked false q p k = step.Refused q p
+
+pub step-ask : {A : Type 0} (b : Bool) (q p : ℕ) (o : Outcome A) → stepOf (ask b q p o) ≡ asked b q p (stepOf o)
+step-ask true q p o = refl
+step-ask false q p o = refl
 
 module _ {A B : Type 0} where
   pub step-bind : (o : Outcome A) (k : ℕ → Step) (f : A → ℕ → Outcome B) → ((a : A) (n : ℕ) → stepOf (f a n) ≡ k n) → stepOf (bind o f) ≡ onward (stepOf o) k

@@ -11,6 +11,7 @@ use state_wire::step_of;
 use state_wire::string;
 ghost use mathlib.Core.Path.{_≡_};
 ghost use Rattle.format.specs.Format.{scan};
+ghost use Rattle.format.specs.Lists.{isLess, before};
 ghost use Rattle.state_wire.specs.Fields.{maxSnapshotBytes};
 ghost use Rattle.format.specs.Keys.{blockKey, connectorKey};
 ghost use Rattle.state_key_order.specs.Compare.{blockKeysCompared, connectorKeysCompared, spansCompared};
@@ -20,6 +21,25 @@ pub enum KeysCompared {
     Compared(Order, usize),
     LeftRefused(u8, usize),
     RightRefused(u8, usize),
+}
+
+fn is_less(order: Order) -> bool
+    ensures { λ r. ⌜ r ≡ isLess order ⌝ }
+{
+    match order {
+        Order::Less => true,
+        Order::Equal => false,
+        Order::Greater => false,
+    }
+}
+
+// Whether a byte string comes before another.
+pub fn precedes(left: &[u8], right: &[u8]) -> bool
+    ensures { λ r. ⌜ r ≡ before (now (left .entry)) (now (right .entry)) ⌝ }
+{
+    let c = order::compare(left, right);
+    let order = c.order;
+    is_less(order)
 }
 
 // Where the block key at a position ends.

@@ -1,8 +1,5 @@
-use Rattle.state_wire.proofs.Fields.{tag-below}
 use Rattle.format.proofs.Steps.{steps}
 use Rattle.format.specs.Keys.{blockKey}
-use mathlib.Core.Path.{_≡_}
-use native.Mathlib.Omega.{arith}
 use borrow.Author.Needs.{needs}
 use Rattle.state_key_order.proofs.read_block_key.Statement.{statement}
 use Rattle.state_key_order.proofs.read_block_key.Tie as tie
@@ -41,14 +38,14 @@ enum-told-2 c = search needs
 
 returns-3 : tie.Need-returns-3
 unfolding blockKey
-returns-3 c = let b = tag-below _ _ _ (c .before .before .before .before .before .before .before .read-tag .ensures) (c .before .before .before .before .before .tag .given .1) in let one : c .before .before .before .before .before .tag .given .0 .0 ≡ 1 = omega arith in search steps
+returns-3 c = search steps
 
 string-requires-2 : tie.Need-string-requires-2
 string-requires-2 c κs = search needs
 
 returns-4 : tie.Need-returns-4
 unfolding blockKey
-returns-4 c = let b = tag-below _ _ _ (c .before .before .before .before .before .before .before .before .before .read-tag .ensures) (c .before .before .before .before .before .before .before .tag .given .1) in let one : c .before .before .before .before .before .before .before .tag .given .0 .0 ≡ 1 = omega arith in search steps
+returns-4 c = search steps
 
 pub read-block-key-spec : {M : Type 1} → statement M
 read-block-key-spec =
