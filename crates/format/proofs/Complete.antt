@@ -23,7 +23,7 @@ use Rattle.format.specs.Least.{least, allBelow, honest}
 use Rattle.format.proofs.Sound.{Stands, part-shown, read-sound}
 use Rattle.format.proofs.Bounds.{fewest-le}
 
-all-below : (f : ℕ → Bool) (k t : ℕ) → allBelow f k ≡ true → t < k → f t ≡ true
+pub all-below : (f : ℕ → Bool) (k t : ℕ) → allBelow f k ≡ true → t < k → f t ≡ true
 all-below f zero t e h = absurd (omega arith)
 all-below f (suc k) t e h = go (ℕ-discrete t k) (λ h′. all-below f k t (both (f k) _ e .1) h′)
   where

@@ -1,25 +1,28 @@
 -- What code that walks over a list's entries cites: the list's reading with the values forgotten, entry by entry.
-use Prim.Native.Nat.{ℕ, zero, suc, _+_, _-_, _≤_, _<_}
+use Prim.Native.Nat.{ℕ, zero, suc, _+_, _*_, _-_, _≤_, _<_}
 use native.Mathlib.Omega.{arith}
 use mathlib.Core.Path.{_≡_, refl, sym, ap, _∙_}
 use mathlib.Core.Bool.{Bool, true, false}
 use mathlib.Core.List.{List, [], _∷_}
 use lib.ListN.{length}
-use Rattle.state.specs.Bytes.{span}
+use lib.Dec.{leb}
+use borrow.Author.Tests.{leb-true}
+use Rattle.state.specs.Bytes.{span, numberOf}
 use Rattle.state.specs.Outcome.{fieldOf, stepOfField}
 use Rattle.state.specs.declared.Step.{Step}
 use Rattle.state.specs.declared.Step.the-variants as step
 use Rattle.state.specs.declared.Field.{Field}
 use Rattle.state.specs.declared.Field.the-variants as field
-use Rattle.state.proofs.Outcome.{value-got, value-refused, value-yields, onward, asked, step-bind, step-ask, step-keeps}
+use Rattle.state.proofs.Outcome.{value-got, value-refused, value-yields, this, yields-ask, yields-bind, onward, asked, step-bind, step-ask, step-keeps}
+use Rattle.state_wire.proofs.Fields.{yields-number}
 use Rattle.state_wire.specs.Fields.{readNumber, boundedCount, readCount}
 use Rattle.format.specs.Format.{Rule, free, Fmt, done, list, entries, read, scan, scanEntries, kept, afterKey, afterEntry, afterAll, from}
-use Rattle.format.proofs.Bounds.{next-within, yields-count}
+use Rattle.format.proofs.Bounds.{next-within}
 use Rattle.format.proofs.Steps.{done-step, taken-step, text-step}
 
 -- one entry: its key, the order if it is asked at once, the rest, the order if it is asked then
 module _ (limit : ℕ) (u : Rule) (k r : Fmt) (s : List ℕ) (n at : ℕ) (ks : List (List ℕ)) where
-  scan-entries : scanEntries limit u k r s (suc n) at ks ≡ onward (scan limit k s at) (λ m.
+  pub scan-entries : scanEntries limit u k r s (suc n) at ks ≡ onward (scan limit k s at) (λ m.
       asked (afterKey u (span s (from u at) m) ks) 9 m (onward (scan limit r s m) (λ e.
       asked (afterEntry u (span s (from u at) m) ks) 9 e (scanEntries limit u k r s n e (kept u (span s (from u at) m) ks)))))
   unfolding scan scanEntries
@@ -43,6 +46,16 @@ module _ (s : List ℕ) (at w l : ℕ) {g : Field} (e : g ≡ fieldOf (readNumbe
   unfolding readCount
   count-on h i = i ∙ rw (value-got (readNumber w s at) e h)
 
+-- a count that was read: its number, where it ends, and that what is left has the least bytes for its entries
+module _ (s : List ℕ) (at w l : ℕ) where
+  abbrev Counted : ℕ → ℕ → Type 0
+  Counted n m = (n ≡ numberOf (span s at (at + w))) × (m ≡ at + w) × (m ≤ length s) × (n * l ≤ length s - m)
+
+  pub counted-fits : {g : Field} {n m : ℕ} → g ≡ fieldOf (readCount w l s at) → g ≡ field.Value n m → Counted n m
+  unfolding readCount boundedCount
+  counted-fits = value-yields {P = Counted} (yields-bind (yields-number w s at) λ n m p. yields-ask (leb (n * l) (length s - m)) 7 m λ e.
+      this (p .2 ∙ ap (λ (x : ℕ). numberOf (span s at x)) (p .0), p .0, p .1, leb-true _ _ e))
+
 module _ (limit : ℕ) (s : List ℕ) (at w l : ℕ) (u : Rule) (k r : Fmt) {g : Field} (e : g ≡ fieldOf (readCount w l s at)) where
   pub list-stop : {x : Step} {q p : ℕ} → g ≡ field.Refused q p → x ≡ stepOfField g → x ≡ scan limit (list w l u k r) s at
   unfolding scan read
@@ -50,7 +63,7 @@ module _ (limit : ℕ) (s : List ℕ) (at w l : ℕ) (u : Rule) (k r : Fmt) {g :
 
   pub going-start : {n m : ℕ} → g ≡ field.Value n m → Going (scan limit (list w l u k r) s at) limit u k r s n m []
   unfolding scan scanEntries read
-  going-start h = record { is = rw (value-got (readCount w l s at) e h); here = value-yields (yields-count s w l at) e h .2 }
+  going-start h = record { is = rw (value-got (readCount w l s at) e h); here = counted-fits s at w l e h .2 }
 
 module _ {whole : Step} {limit : ℕ} {u : Rule} {k r : Fmt} {s : List ℕ} {left p : ℕ} {ks : List (List ℕ)} (g : Going whole limit u k r s left p ks) where
   pub going-end : left ≤ 0 → afterAll u ks ≡ true → step.Next p ≡ whole
@@ -86,7 +99,7 @@ module _ {whole : Step} {limit : ℕ} {u : Rule} {k r : Fmt} {s : List ℕ} {lef
             }
 
 -- an unordered list forgets its keys
-forgets : (limit : ℕ) (k r : Fmt) (s : List ℕ) (n at : ℕ) (ks : List (List ℕ)) → scanEntries limit free k r s n at ks ≡ scanEntries limit free k r s n at []
+pub forgets : (limit : ℕ) (k r : Fmt) (s : List ℕ) (n at : ℕ) (ks : List (List ℕ)) → scanEntries limit free k r s n at ks ≡ scanEntries limit free k r s n at []
 unfolding scanEntries
 forgets limit k r s zero at ks = refl
 forgets limit k r s (suc n) at ks = refl
