@@ -7,3 +7,4 @@ pub mod Keys
 pub mod Manifest
 pub mod Places
 pub mod Reading
+pub mod Fields

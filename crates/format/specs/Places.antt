@@ -1,5 +1,5 @@
 -- Where the parts of bytes that were read stand.
-use Prim.Native.Nat.{ℕ, zero, suc, _+_, min}
+use Prim.Native.Nat.{ℕ, zero, suc, _+_, _-_, min}
 use mathlib.Core.List.{List, [], _∷_, _++_}
 use lib.ListN.{length, getD}
 use Rattle.state.specs.Bytes.{span, numberOf}
@@ -40,6 +40,13 @@ module _ (limit : ℕ) where
   -- of a whole manifest
   unfoldable pub manifestStarts : List ℕ → List ℕ
   manifestStarts s = sectionStarts sections s 0
+
+  -- section k starts there, and section 13 would at the manifest's end; so section k ends where section k + 1 starts
+  unfoldable pub sectionStart : (k : ℕ) → List ℕ → ℕ
+  sectionStart k s = getD (manifestStarts s) (k - 1) (length s)
+
+  abbrev pub sectionEnd : (k : ℕ) → List ℕ → ℕ
+  sectionEnd k s = sectionStart (k + 1) s
 
   unfoldable pub manifestEntries : List ℕ → List ℕ
   manifestEntries s = entryStarts lists s (endAt portability s 0)

@@ -4,7 +4,7 @@ use native.Mathlib.Omega.{arith}
 use mathlib.Core.Path.{_≡_, refl}
 use mathlib.Core.List.{[], _∷_}
 use lib.ListN.{getD}
-use Rattle.format.specs.Format.{Fmt, done, text}
+use Rattle.format.specs.Format.{done, text}
 
 -- a value type other than an enum has nothing more
 pub bare-type : (t : ℕ) → t < 5 → (t ≡ 4 → ⊥) → getD (done ∷ done ∷ done ∷ done ∷ text ∷ []) t done ≡ done

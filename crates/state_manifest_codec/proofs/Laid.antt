@@ -12,7 +12,7 @@ use Rattle.state.specs.Bytes.{span}
 use Rattle.text.proofs.Blocks.{both}
 use Rattle.format.specs.Format.{wire, plain, Rule, free, distinct, early, late, from, above, kept, afterKey, afterEntry, afterAll}
 use Rattle.format.specs.Keys.{blockKey, connectorKey}
-use Rattle.format.specs.Manifest.{Section, numbered, inputDefinitions}
+use Rattle.format.specs.Manifest.{Section, numbered}
 use Rattle.format.specs.Least.{least, allBelow}
 use Rattle.format.proofs.Complete.{all-below}
 use Rattle.state_manifest_codec.specs.declared.layouts.Layout.{Layout}

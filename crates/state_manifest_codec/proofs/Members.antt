@@ -1,10 +1,9 @@
 -- The members of a class: their texts are read one after another, and then asked whether they are all different.
-use Prim.Native.Nat.{ℕ, zero, suc, _+_, _*_, _-_, _≤_}
-use native.Mathlib.Omega.{arith}
-use mathlib.Core.Path.{_≡_, refl, sym, ap, _∙_, subst}
+use Prim.Native.Nat.{ℕ, zero, suc, _+_, _-_, _≤_}
+use mathlib.Core.Path.{_≡_, refl, sym, ap, _∙_}
 use mathlib.Core.Bool.{Bool, true, false}
 use mathlib.Core.List.{List, [], _∷_, _++_, map, append-nil}
-use lib.ListN.{length, take, drop}
+use lib.ListN.{length}
 use lib.Seq.{append-snoc}
 use Rattle.state.specs.Bytes.{span}
 use Rattle.state.specs.declared.Step.{Step}
@@ -12,7 +11,7 @@ use Rattle.state.specs.declared.Step.the-variants as step
 use Rattle.state.proofs.Outcome.{onward, asked, step-ask, step-yields}
 use Rattle.format.specs.Lists.{allDifferent}
 use Rattle.format.specs.Format.{plain, free, distinct, text, done, _then_, read, scan, scanEntries}
-use Rattle.format.specs.Places.{endOf, endAt, starts, past}
+use Rattle.format.specs.Places.{endAt, starts}
 use Rattle.format.proofs.Steps.{done-step}
 use Rattle.state_manifest_codec.proofs.Filling.{entry-end, fills-before, fills-table, fills-front, fills-stop}
 use Rattle.format.proofs.Entries.{scan-entries, forgets, going-start}

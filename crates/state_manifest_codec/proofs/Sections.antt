@@ -1,15 +1,15 @@
 -- What the loop over the sections keeps, and what it answers.
-use Prim.Native.Nat.{ℕ, zero, suc, _+_, _*_, _-_, _≤_, _<_}
+use Prim.Native.Nat.{ℕ, suc, _+_, _*_, _-_, _≤_, _<_}
 use native.Mathlib.Omega.{arith}
 use native.Mathlib.Nat.{zero-add}
 use mathlib.Core.Path.{_≡_, refl, sym, ap, _∙_}
-use mathlib.Core.List.{List, [], _∷_, _++_, map, append-nil, append-assoc}
-use lib.ListN.{length, take, drop, getD, set, length-set, length-take, take-append-drop, drop-of-length-le}
+use mathlib.Core.List.{List, _∷_, _++_, map, append-nil, append-assoc}
+use lib.ListN.{length, take, drop, set, length-set, length-take, take-append-drop, drop-of-length-le}
 use lib.Seq.{take-suc-set, take-set-lt, drop-set-lt, take-take, drop-cons, length-take-le, append-snoc, drop-append-le}
 use Rattle.state.specs.declared.Step.{Step}
 use Rattle.state.specs.declared.Step.the-variants as step
 use Rattle.state.proofs.Outcome.{onward, always, step-yields}
-use Rattle.format.specs.Format.{scan, read, list}
+use Rattle.format.specs.Format.{scan, read}
 use Rattle.format.specs.Least.{least}
 use Rattle.format.specs.Manifest.{Section, numbered, counted, entry, lists, inputDefinitions, portability, sequence, manifest}
 use Rattle.format.specs.Places.{countAt, endOf, endAt, starts, sectionStarts, entryStarts, manifestStarts, manifestEntries}

@@ -1,13 +1,13 @@
 -- What `read_manifest` answers, from what its tests and the reader of the sections answered.
-use Prim.Native.Nat.{ℕ, _+_, _-_, _/_, _≤_, _<_}
+use Prim.Native.Nat.{ℕ, _+_, _-_, _≤_, _<_}
 use native.Mathlib.Omega.{arith}
 use native.Mathlib.Nat.{zero-add}
 use mathlib.Core.Path.{_≡_, refl, sym, ap, _∙_, subst}
-use mathlib.Core.List.{List, [], _++_}
+use mathlib.Core.List.{List, _++_}
 use lib.ListN.{length, take, drop, length-append, length-take, length-drop}
 use lib.Seq.{drop-at, take-append-le, length-take-le}
 use borrow.Author.Tests.{le-leb, lt-leb, eq-eqb, ne-eqb}
-use Rattle.state.specs.Outcome.{got, stepOf}
+use Rattle.state.specs.Outcome.{stepOf}
 use Rattle.state.specs.declared.Step.{Step}
 use Rattle.state.specs.declared.Step.the-variants as step
 use Rattle.state.proofs.Outcome.{step-refused, step-yields, always}

@@ -1,5 +1,4 @@
 -- What of a section's format its loop needs to know: `Layout`.
-use Prim.Native.Nat.{ℕ}
 use mathlib.Core.Bool.{Bool, true, false}
 use Rattle.format.specs.Format.{Rule, free, distinct, early, late, from}
 use Rattle.format.specs.Manifest.{Section}
