@@ -1,8 +1,8 @@
 use borrow.Author.Needs.{needs}
 use lib.ListN.{length}
 use Prim.Native.Nat.{_-_}
-use Rattle.replay_keys.proofs.number.Statement.{statement}
-use Rattle.replay_keys.proofs.number.Tie as tie
+use Rattle.replay_lines.proofs.number.Statement.{statement}
+use Rattle.replay_lines.proofs.number.Tie as tie
 
 abbrev Inv-loop : tie.InvT-loop
 Inv-loop s at v₀ i₀ v i = Unit

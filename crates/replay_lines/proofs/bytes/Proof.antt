@@ -2,8 +2,8 @@ use borrow.Author.Needs.{needs}
 use lib.ListN.{length}
 use Prim.Native.Nat.{_-_}
 use mathlib.Core.Path.{_≡_}
-use Rattle.replay_keys.proofs.bytes.Statement.{statement}
-use Rattle.replay_keys.proofs.bytes.Tie as tie
+use Rattle.replay_lines.proofs.bytes.Statement.{statement}
+use Rattle.replay_lines.proofs.bytes.Tie as tie
 
 abbrev Inv-loop : tie.InvT-loop
 Inv-loop s at out₀ n₀ i₀ out n i = length out ≡ length out₀

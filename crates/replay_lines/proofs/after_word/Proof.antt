@@ -1,8 +1,8 @@
 use borrow.Author.Needs.{needs}
 use lib.ListN.{length}
 use Prim.Native.Nat.{_-_}
-use Rattle.replay_keys.proofs.after_word.Statement.{statement}
-use Rattle.replay_keys.proofs.after_word.Tie as tie
+use Rattle.replay_lines.proofs.after_word.Statement.{statement}
+use Rattle.replay_lines.proofs.after_word.Tie as tie
 
 abbrev Inv-loop : tie.InvT-loop
 Inv-loop s at i₀ i = Unit
