@@ -91,7 +91,7 @@ module _ (limit : ℕ) (s : List ℕ) where
       rw p (part-shown (e .rule) (read-sound limit s b (e .key) at k m h r .part))
 
 -- ---- values one after the other
-self : {A : Type 0} (o : Outcome A) → Yields (λ v n. o ≡ got v n) o
+pub self : {A : Type 0} (o : Outcome A) → Yields (λ v n. o ≡ got v n) o
 self (got v n) = this refl
 self (refused q p) = nothing
 
