@@ -26,6 +26,7 @@ ghost use Rattle.format.specs.Manifest.{members, blockRest, numbered, counted, 
 ghost use Rattle.format.specs.Places.{countAt, starts};
 ghost use Rattle.state_manifest_codec.specs.Tables.{Room, Fills};
 
+// A position as a word.
 pub fn narrow(x: usize) -> u32
     requires { ⌜ x < 2 ^ 32 ⌝ }
     ensures { λ r. ⌜ r ≡ x ⌝ }
@@ -33,7 +34,7 @@ pub fn narrow(x: usize) -> u32
     x as u32
 }
 
-// The texts of a class's members; where they start goes into the words from w on.
+// The texts of a class's members; where they start goes into the words from `word` on.
 fn read_names(s: &[u8], at: usize, count: u64, index: &mut [u32], word: usize) -> Step
     requires { ⌜ Room (now s) (now index) at word ⌝ }
     ensures { λ r. ⌜ Fills r (scanEntries maxSnapshotBytes free text done (now (s .entry)) count at []) (starts maxSnapshotBytes (text then done) (now (s .entry)) count at) word (now (index .entry)) (now (index .exit)) ⌝ }
@@ -54,7 +55,7 @@ fn read_names(s: &[u8], at: usize, count: u64, index: &mut [u32], word: usize) -
     Step::Next(p)
 }
 
-// A class's members, all different. The words from w on are scratch.
+// A class's members, all different. The words from `word` on are scratch.
 fn read_members(s: &[u8], at: usize, index: &mut [u32], word: usize) -> Step
     requires { ⌜ Room (now s) (now index) at word ⌝ }
     ensures { λ r. ⌜ Fills r (scan maxSnapshotBytes members (now (s .entry)) at) [] word (now (index .entry)) (now (index .exit)) ⌝ }
@@ -127,7 +128,7 @@ fn read_key(s: &[u8], section: u8, at: usize) -> Step
     string(s, at)
 }
 
-// The rest of an entry. The words from w on are scratch.
+// The rest of an entry. The words from `word` on are scratch.
 fn read_rest(s: &[u8], section: u8, at: usize, index: &mut [u32], word: usize) -> Step
     requires { ⌜ Room (now s) (now index) at word ⌝ }
     ensures { λ r. ⌜ Fills r (scan maxSnapshotBytes (numbered section .rest) (now (s .entry)) at) [] word (now (index .entry)) (now (index .exit)) ⌝ }
