@@ -227,15 +227,21 @@ fn class(count: usize, shuffled: bool) -> Vec<u8> {
     std::mem::take(&mut w.0)
 }
 
-/// What the oracle says of decode_manifest: seconds of the best of three runs, and its answer.
-fn rust_time(oracle: &str, folder: &str, bytes: &[u8]) -> (f64, String) {
+/// What the oracle says of decode_manifest: seconds of the best of five runs, the same less those of its validation and of
+/// its writer (what is left is about its reading), and its answer.
+fn rust_times(oracle: &str, folder: &str, bytes: &[u8]) -> (f64, f64, String) {
     let file = format!("{folder}/manifest");
     std::fs::write(&file, bytes).expect("write the manifest");
-    let out = Command::new(oracle).args(["bench", &file, "-", "3"]).output().expect("run the oracle").stdout;
-    let line = String::from_utf8_lossy(&out).lines().next().expect("a line").to_string();
-    let wall = line.split("wall ").nth(1).and_then(|l| l.split(' ').next()).and_then(|n| n.parse::<f64>().ok());
-    let answer = line.split(": ").nth(2).unwrap_or("?").split(" | ").next().unwrap_or("?");
-    (wall.expect("a time") / 1e3, answer.to_string())
+    let out = Command::new(oracle).args(["bench", &file, "-", "5"]).output().expect("run the oracle").stdout;
+    let out = String::from_utf8_lossy(&out).to_string();
+    let line = |call: &str| out.lines().find(|l| l.starts_with(call)).unwrap_or("");
+    let wall = |call: &str| {
+        let ms = line(call).split("wall ").nth(1).and_then(|l| l.split(' ').next());
+        ms.and_then(|n| n.parse::<f64>().ok()).unwrap_or(0.0) / 1e3
+    };
+    let whole = wall("decode_manifest");
+    let answer = line("decode_manifest").split(": ").nth(2).unwrap_or("?").split(" | ").next().unwrap_or("?");
+    (whole, whole - wall("validate_manifest") - wall("encode_manifest"), answer.to_string())
 }
 
 fn row(name: &str, rounds: usize, bytes: &[u8], oracle: &[String]) {
@@ -249,8 +255,8 @@ fn row(name: &str, rounds: usize, bytes: &[u8], oracle: &[String]) {
     let rate = |t: f64| bytes.len() as f64 / t / 1e6;
     print!("| {name} | {:.1} | {:.1} | {:.0} |", bytes.len() as f64 / 1e6, best * 1e3, rate(best));
     if let [program, folder] = oracle {
-        let (time, answer) = rust_time(program, folder, bytes);
-        print!(" {:.1} | {:.0} | {:.1} | {answer} |", time * 1e3, rate(time), time / best);
+        let (whole, reading, answer) = rust_times(program, folder, bytes);
+        print!(" {:.1} | {:.1} | {:.1} | {:.1} | {answer} |", whole * 1e3, whole / best, reading * 1e3, reading / best);
     }
     println!();
 }
@@ -270,8 +276,8 @@ fn main() {
     let oracle: Vec<String> = std::env::args().skip(1).collect();
     too_much_or_too_little();
     print!("\n| reading, questions 1 to 10 | MB | ms | MB/s |");
-    print!("{}", if oracle.is_empty() { "" } else { " Rust, ms | MB/s | ratio | its answer |" });
-    println!("\n|---|---|---|---|{}", if oracle.is_empty() { "" } else { "---|---|---|---|" });
+    print!("{}", if oracle.is_empty() { "" } else { " Rust, ms | ratio | its reading, ms | ratio | its answer |" });
+    println!("\n|---|---|---|---|{}", if oracle.is_empty() { "" } else { "---|---|---|---|---|" });
     for (size, rounds) in [(1, 200), (16, 20), (60, 7)] {
         row(&format!("plant, {size} MiB"), rounds, &plant(size << 20), &oracle);
     }

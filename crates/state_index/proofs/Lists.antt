@@ -1,4 +1,4 @@
--- Parts of lists: past their end, beside a store, lent by a start and a count, and cleared.
+-- Parts of lists: past their end, beside a store, lent by a start and a count, and filled.
 use mathlib.Core.Path.{_≡_, refl, sym, ap, _∙_}
 use mathlib.Core.List.{List, [], _∷_, _++_, append-assoc}
 use Prim.Native.Nat.{ℕ, zero, suc, _+_, _-_, _≤_, _<_}
@@ -6,9 +6,9 @@ use native.Mathlib.Nat.{sub-zero, sub-self, zero-sub, suc-sub-suc}
 use native.Mathlib.Numerals.{add-one}
 use native.Mathlib.Omega.{arith}
 use lib.ListN.{length, getD, take, drop, set, replicate, length-append, length-take, length-replicate}
-use lib.ListN.{drop-of-length-le, take-append-drop, replicate-append-replicate}
+use lib.ListN.{drop-of-length-le, take-append-drop, replicate-append-replicate, getD-replicate, List·getD-append}
 use lib.Seq.{slice, sets, sets-eq, take-nil, take-take, take-set-le, drop-set-lt, length-slice}
-use lib.Seq.{drop-at, drop-cons, set-at, length-take-le, take-append-seam, take-append-le}
+use lib.Seq.{drop-at, drop-cons, set-at, length-take-le, take-append-seam, take-append-le, getD-append-add}
 use borrow.Rule.Slice.PartMut.{putMid, postOf}
 
 pub slice-past : (f t : ℕ) (l : List ℕ) → t ≤ f → slice f t l ≡ []
@@ -59,19 +59,33 @@ mid-put a k xs ys m h g =
     ap (λ (r : List ℕ). take m r) (drop-at (take a xs) (ys ++ postOf a k xs) a (length-take-le a xs h))
     ∙ take-append-le m ys (postOf a k xs) g
 
--- ---- words set to 0
+-- ---- words set to x
 
--- the list with 0 from a up to b
-abbrev pub cleared : (a b : ℕ) → List ℕ → List ℕ
-cleared a b l = take a l ++ (replicate (b - a) 0 ++ drop b l)
+-- the list with x from a up to b
+abbrev pub filled : (x a b : ℕ) → List ℕ → List ℕ
+filled x a b l = take a l ++ (replicate (b - a) x ++ drop b l)
 
-pub cleared-none : (a : ℕ) (l : List ℕ) → l ≡ cleared a a l
-cleared-none a l = rw (sub-self a) (sym (take-append-drop a l))
+module _ (x : ℕ) where
+  pub filled-none : (a : ℕ) (l : List ℕ) → l ≡ filled x a a l
+  filled-none a l = rw (sub-self a) (sym (take-append-drop a l))
 
-pub cleared-more : (a i : ℕ) (l : List ℕ) → a ≤ i → i < length l → set (cleared a i l) i 0 ≡ cleared a (i + 1) l
-cleared-more a i l h k =
-    let e : (i + 1) - a ≡ (i - a) + 1 = omega arith in
-    rw (← append-assoc (take a l) (replicate (i - a) 0) (drop i l), drop-cons l i 0 k)
-    (set-at (take a l ++ replicate (i - a) 0) (getD l i 0) (drop (suc i) l) 0 i (simp (length-append, length-take, length-replicate) (omega arith))
-    ∙ append-assoc (take a l) (replicate (i - a) 0) (0 ∷ drop (suc i) l)
-    ∙ rw (e, add-one i, ← replicate-append-replicate {A = ℕ} (i - a) 1 0, append-assoc {A = ℕ} (replicate (i - a) 0)))
+  pub filled-more : (a i : ℕ) (l : List ℕ) → a ≤ i → i < length l → set (filled x a i l) i x ≡ filled x a (i + 1) l
+  filled-more a i l h k =
+      let e : (i + 1) - a ≡ (i - a) + 1 = omega arith in
+      rw (← append-assoc (take a l) (replicate (i - a) x) (drop i l), drop-cons l i 0 k)
+      (set-at (take a l ++ replicate (i - a) x) (getD l i 0) (drop (suc i) l) x i (simp (length-append, length-take, length-replicate) (omega arith))
+      ∙ append-assoc (take a l) (replicate (i - a) x) (x ∷ drop (suc i) l)
+      ∙ rw (e, add-one i, ← replicate-append-replicate {A = ℕ} (i - a) 1 x, append-assoc {A = ℕ} (replicate (i - a) x)))
+
+  -- what stands in front of them, and what they are
+  pub filled-front : (a b k : ℕ) (l : List ℕ) → k ≤ a → a ≤ length l → take k (filled x a b l) ≡ take k l
+  filled-front a b k l h g =
+      take-append-le k (take a l) (replicate (b - a) x ++ drop b l) (simp length-take (omega arith)) ∙ take-take k a l h
+
+  pub filled-at : (a b i : ℕ) (l : List ℕ) → a ≤ length l → i < b - a → getD (filled x a b l) (a + i) 0 ≡ x
+  filled-at a b i l g h =
+      let e : length (take a l) + i ≡ a + i = ap (λ (z : ℕ). z + i) (length-take-le a l g) in
+      ap (λ (z : ℕ). getD (filled x a b l) z 0) (sym e)
+      ∙ getD-append-add (take a l) (replicate (b - a) x ++ drop b l) i 0
+      ∙ List·getD-append (replicate (b - a) x) (drop b l) 0 i (simp length-replicate h)
+      ∙ getD-replicate (b - a) i x 0 h

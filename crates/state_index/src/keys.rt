@@ -8,7 +8,7 @@ ghost use Rattle.format.specs.Keys.{blockKey, connectorKey};
 ghost use Rattle.format.specs.Places.{past};
 
 // The byte at a position; 0 past the end.
-fn byte_at(s: &[u8], at: usize) -> u8
+pub(crate) fn byte_at(s: &[u8], at: usize) -> u8
     ensures { λ r. ⌜ r ≡ getD (now (s .entry)) at 0 ⌝ }
 {
     if at < s.len() { s[at] } else { 0 }

@@ -1,12 +1,14 @@
 // The lent index: words that are positions of the bytes. Clearing, sorting and looking up.
 mod keys;
 mod merge;
+mod sift;
 
 use keys::block_key_end;
 use keys::connector_key_end;
 use merge::rising;
 use merge::sort_all;
 use order::Order;
+use sift::different;
 use state::Section;
 use state_wire::part;
 use state_wire::remaining;
@@ -41,16 +43,24 @@ pub enum Found {
     Nothing,
 }
 
+// Sets the words from..to to x.
+fn fill(index: &mut [u32], from: usize, to: usize, x: u32)
+    requires { ⌜ (from ≤ to) × (to ≤ length (now index)) ⌝ }
+    ensures { λ _. ⌜ now (index .exit) ≡ take from (now (index .entry)) ++ (replicate (to - from) x ++ drop to (now (index .entry))) ⌝ }
+{
+    let mut i = from;
+    while i < to {
+        index[i] = x;
+        i += 1;
+    }
+}
+
 // Sets the words from..to to 0.
 pub fn clear(index: &mut [u32], from: usize, to: usize)
     requires { ⌜ (from ≤ to) × (to ≤ length (now index)) ⌝ }
     ensures { λ _. ⌜ now (index .exit) ≡ take from (now (index .entry)) ++ (replicate (to - from) 0 ++ drop to (now (index .entry))) ⌝ }
 {
-    let mut i = from;
-    while i < to {
-        index[i] = 0;
-        i += 1;
-    }
+    fill(index, from, to, 0);
 }
 
 // A position n bytes further on, or the end of the bytes.
@@ -91,7 +101,8 @@ pub fn sort(s: &[u8], kind: u8, index: &mut [u32], from: usize, count: usize)
     sort_all(s, kind, &mut index[from..end], count);
 }
 
-// Are the texts at the `count` words from `from` on all different? It sorts them where they do not rise already; the words behind are room.
+// Are the texts at the `count` words from `from` on all different? Where they do not rise already, it sifts them twice and sorts what is left;
+// the words behind are room.
 pub fn all_distinct(s: &[u8], index: &mut [u32], from: usize, count: usize) -> bool
     requires { ⌜ from + count + count ≤ length (now index) ⌝ }
     ensures { λ r. ⌜ r ≡ allDifferent (map (textAt (now (s .entry))) (span (now (index .entry)) from (from + count))) ⌝ }
@@ -101,8 +112,8 @@ pub fn all_distinct(s: &[u8], index: &mut [u32], from: usize, count: usize) -> b
     if rising(s, SortKey::TEXT, index, from, to) {
         return true;
     }
-    sort(s, SortKey::TEXT, index, from, count);
-    rising(s, SortKey::TEXT, index, from, to)
+    let end = to + count;
+    different(s, &mut index[from..end], count)
 }
 
 // Where the key of an entry of a section ends that starts at a position.

@@ -3,18 +3,18 @@ use native.Mathlib.Omega.{arith}
 use Prim.Native.Nat.{ℕ, _-_, _≤_}
 use mathlib.Core.List.{List}
 use mathlib.Core.Path.{_≡_, refl, ap, _∙_}
-use Rattle.state_index.proofs.Lists.{cleared, cleared-none, cleared-more}
-use Rattle.state_index.proofs.clear.Statement.{statement}
-use Rattle.state_index.proofs.clear.Tie as tie
+use Rattle.state_index.proofs.Lists.{filled, filled-none, filled-more}
+use Rattle.state_index.proofs.fill.Statement.{statement}
+use Rattle.state_index.proofs.fill.Tie as tie
 
 abbrev Inv-loop : tie.InvT-loop
-Inv-loop index₀ from to i₀ index i = (from ≤ i) × (i ≤ to) × (length index ≡ length index₀) × (index ≡ cleared from i index₀)
+Inv-loop index₀ from to x i₀ index i = (from ≤ i) × (i ≤ to) × (length index ≡ length index₀) × (index ≡ filled x from i index₀)
 
 abbrev μ-loop : tie.MeasureT-loop
-μ-loop index₀ from to i₀ index i = to - i
+μ-loop index₀ from to x i₀ index i = to - i
 
 loop-holds : tie.Need-loop-holds Inv-loop μ-loop
-loop-holds c = (omega arith, omega arith, refl, cleared-none (c .args .from) (c .args .index .now))
+loop-holds c = (omega arith, omega arith, refl, filled-none (c .args .x) (c .args .from) (c .args .index .now))
 
 mul-index : tie.Need-mul-index Inv-loop μ-loop
 mul-index c = omega arith
@@ -35,7 +35,7 @@ loop-again c =
       omega arith,
       omega arith,
       simp length-set (l .loop .inv .2),
-      ap (λ (r : List ℕ). set r (l .loop .i) 0) (l .loop .inv .3) ∙ cleared-more (g .args .from) (l .loop .i) (g .args .index .now) (omega arith) (omega arith),
+      ap (λ (r : List ℕ). set r (l .loop .i) (g .args .x)) (l .loop .inv .3) ∙ filled-more (g .args .x) (g .args .from) (l .loop .i) (g .args .index .now) (omega arith) (omega arith),
     )
 
 same-length : tie.Need-same-length Inv-loop μ-loop
@@ -44,8 +44,8 @@ same-length c = c .before .loop .inv .2
 returns : tie.Need-returns Inv-loop μ-loop
 returns c = let e : c .before .loop .i ≡ c .before .before .args .to = omega arith in c .before .loop .inv .3 ∙ rw e
 
-pub clear-spec : {M : Type 1} → statement M
-clear-spec =
+pub fill-spec : {M : Type 1} → statement M
+fill-spec =
     tie.close
     (tie.spec
     Inv-loop
