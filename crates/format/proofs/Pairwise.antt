@@ -1,7 +1,7 @@
 -- What the tests of keys, one after another, say of every two of them.
 use Prim.Native.Nat.{ℕ, zero, suc, _<_}
 use native.Mathlib.Omega.{arith}
-use mathlib.Core.Path.{_≡_, refl, sym, ap, _∙_}
+use mathlib.Core.Path.{_≡_, refl, sym, ap, _∙_, subst}
 use mathlib.Core.Logic.{_↔_}
 use mathlib.Core.Bool.{Bool, true, false, not, _&&_, true≢false, false≢true}
 use mathlib.Core.List.{List, [], _∷_, _++_, append-nil}
@@ -17,6 +17,7 @@ use Rattle.format.specs.Lists.{isLess, isEqual, before, same, isIn, allD
 use Rattle.format.specs.Format.{Rank, Rule, free, distinct, early, late, above}
 use Rattle.format.specs.Admits.{inOrder}
 use Rattle.format.specs.Pairwise.{Ascending, Different}
+use Rattle.format.proofs.Lists.{same-true, same-refl}
 
 -- ---- keys that ascend
 before-trans : (x y z : List ℕ) → before x y ≡ true → before y z ≡ true → before x z ≡ true
@@ -74,18 +75,10 @@ module _ (u : Rule) (h : Rises u) where
   ascending-iff (k ∷ ks) = (λ e. ascends k ks (sym (rise-next u h k ks []) ∙ e), λ a. rise-next u h k ks [] ∙ in-order k ks a)
 
 -- ---- keys that are all different
-same-iff : (x y : List ℕ) → same x y ≡ true ↔ x ≡ y
-same-iff x y = (λ e. lex-equal-iff x y .0 (equal (lexCompare x y) e), λ e. ap isEqual (lex-equal-iff x y .1 e))
-  where
-    equal : (o : Order) → isEqual o ≡ true → o ≡ Equal
-    equal Less e = absurd (false≢true e)
-    equal Equal e = refl
-    equal Greater e = absurd (false≢true e)
-
 apart : (k : List ℕ) (ks : List (List ℕ)) → isIn k ks ≡ false → (j : ℕ) → j < length ks → k ≡ getD ks j [] → ⊥
 unfolding isIn
 apart k [] e j i q = absurd (omega arith)
-apart k (l ∷ ls) e zero i q = true≢false (sym (same-iff k l .1 q) ∙ neither (same k l) (isIn k ls) e .0)
+apart k (l ∷ ls) e zero i q = true≢false (sym (subst (λ x. same k x ≡ true) q (same-refl k)) ∙ neither (same k l) (isIn k ls) e .0)
 apart k (l ∷ ls) e (suc j) i q = apart k ls (neither (same k l) (isIn k ls) e .1) j (omega arith) q
 
 not-in : (k : List ℕ) (ks : List (List ℕ)) → ((j : ℕ) → j < length ks → k ≡ getD ks j [] → ⊥) → isIn k ks ≡ false
@@ -94,7 +87,7 @@ not-in k [] d = refl
 not-in k (l ∷ ls) d = rw (differs (same k l) refl) (not-in k ls (λ j i q. d (suc j) (omega arith) q))
   where
     differs : (b : Bool) → same k l ≡ b → same k l ≡ false
-    differs true e = absurd (d 0 (omega arith) (same-iff k l .0 e))
+    differs true e = absurd (d 0 (omega arith) (same-true k l e))
     differs false e = e
 
 pairs-differ : (ks : List (List ℕ)) → allDifferent ks ≡ true → Different ks

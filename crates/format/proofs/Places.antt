@@ -1,4 +1,4 @@
--- What the places of specs/Places.antt are where bytes were read: of a value without lists, of a list's entries, of the sections.
+-- What the places of specs/Places.antt are where bytes were read: of a list's entries, of the sections.
 use Prim.Native.Nat.{ℕ, zero, suc, _+_, _*_, _≤_, min}
 use native.Mathlib.Omega.{arith}
 use native.Mathlib.Nat.{min-eq-left}
@@ -24,77 +24,9 @@ use Rattle.format.specs.Reading.{indexWords}
 use Rattle.format.proofs.Sound.{part-shown, read-sound}
 use Rattle.format.proofs.Bounds.{yields-count, ahead, list-takes, list-counts}
 use Rattle.format.proofs.Steps.{scan-then}
-
--- ---- a value without lists
--- a format that has none
-abbrev pub Flat : Fmt → Type 0
-Flat done = Unit
-Flat (number w) = Unit
-Flat (tag k) = Unit
-Flat text = Unit
-Flat (tagged k f) = (t : ℕ) → Flat (f t)
-Flat (a then b) = Flat a × Flat b
-Flat (list w l u k r) = ⊥
-
--- such as block keys and connector keys
-pub flat-block : Flat blockKey
-unfolding blockKey
-flat-block zero = tt
-flat-block (suc zero) = (tt, tt)
-flat-block (suc (suc t)) = tt
-
-pub flat-connector : Flat connectorKey
-unfolding connectorKey
-flat-connector = (flat-block, (tt, tt))
-
-module _ (limit : ℕ) (s : List ℕ) where
-  tag-end : (k at : ℕ) → Yields (λ t m. (min (at + 1) (length s) ≡ m) × (getD s at 0 ≡ t)) (readTag k s at)
-  unfolding readTag
-  tag-end k at = yields-bind (yields-number 1 s at) λ t m p. yields-ask (ltb t k) _ _ λ e.
-      let h : at + 1 ≤ length s = rw (← p .0) (p .1) in
-      this (min-eq-left h ∙ sym (p .0), number-one s at h ∙ ap (λ (x : ℕ). numberOf (span s at x)) (sym (p .0)) ∙ sym (p .2))
-
-  text-end : (at : ℕ) → Yields (λ v m. min (at + 4 + countAt s at) (length s) ≡ m) (readText limit s at)
-  unfolding readText
-  text-end at = yields-bind (yields-number 4 s at) λ n start p.
-      yields-ask (leb n limit) _ _ λ e1.
-      yields-bind (yields-span n s start) λ bs m q.
-      yields-ask (eqb (validUpTo bs) n) _ _ λ e2.
-      let c : countAt s at ≡ n = sym (p .2 ∙ ap (λ (x : ℕ). numberOf (span s at x)) (p .0)) in
-      let e : at + 4 + countAt s at ≡ m = omega (arith, c, p .0, q .0) in
-      this (ap (λ (x : ℕ). min x (length s)) e ∙ min-eq-left (q .1))
-
-  -- where a value without lists was read, `past` is where it ends
-  pub past-end : (f : Fmt) → Flat f → (at : ℕ) → Yields (λ v m. past f s at ≡ m) (read limit f s at)
-  unfolding read past
-  past-end done h at = this refl
-  past-end (number w) h at = yields-so (yields-number w s at) λ v m p. rw (← p .0) (min-eq-left (p .1))
-  past-end (tag k) h at = yields-so (tag-end k at) λ t m p. p .0
-  past-end text h at = text-end at
-  past-end (tagged k f) h at =
-      yields-bind (tag-end k at) λ t m p.
-      yields-bind (past-end (f t) (h t) m) λ v n q.
-      this (rw (p .1, p .0) q)
-  past-end (a then b) h at =
-      yields-bind (past-end a (h .0) at) λ v m p.
-      yields-bind (past-end b (h .1) m) λ w n q.
-      this (rw p q)
-  past-end (list w l u k r) h at = absurd h
-
-module _ (limit : ℕ) (s : List ℕ) where
-  -- the ranked bytes of a key that was read are those of its value as it is written
-  pub keys-stand : AreBytes s → (e : Section) → Flat (e .key) → (at : ℕ) {k : El (e .key)} {m : ℕ} → at ≤ length s → read limit (e .key) s at ≡ got k m
-      → keyAt e s at ≡ shown (e .rule) (encode (e .key) k)
-  unfolding keyAt
-  keys-stand b e f at {k} {m} h r =
-      let p : past (e .key) s at ≡ m = yielded (subst (Yields _) r (past-end limit s (e .key) f at)) in
-      rw p (part-shown (e .rule) (read-sound limit s b (e .key) at k m h r .part))
+use Rattle.format.proofs.Values.{self}
 
 -- ---- values one after the other
-pub self : {A : Type 0} (o : Outcome A) → Yields (λ v n. o ≡ got v n) o
-self (got v n) = this refl
-self (refused q p) = nothing
-
 module _ (limit : ℕ) where
   -- where a value was read, it ends there
   pub end-got : (f : Fmt) (s : List ℕ) (at : ℕ) {v : El f} {n : ℕ} → read limit f s at ≡ got v n → endAt limit f s at ≡ n

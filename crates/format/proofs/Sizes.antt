@@ -13,7 +13,7 @@ use Rattle.format.specs.Manifest.{valueType, value, members, params, con
 use Rattle.format.specs.Fields.{enumsOf, blocksOf, connectorsOf, connectionsOf, scheduleOf, connectorOrderOf, driversOf, slotsOf, externalInputsOf, boundaryOutputsOf, inputDefinitionsOf}
 use Rattle.format.specs.Least.{least}
 use Rattle.format.proofs.Bounds.{ahead, list-takes}
-use Rattle.format.proofs.Places.{self}
+use Rattle.format.proofs.Values.{self}
 
 -- of lists one after the other: each has its count's four bytes and the least bytes of its entries
 abbrev pub leastOf : (es : List Section) → El (sequence (map counted es)) → ℕ

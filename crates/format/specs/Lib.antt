@@ -6,5 +6,6 @@ pub mod Least
 pub mod Keys
 pub mod Manifest
 pub mod Places
+pub mod Values
 pub mod Reading
 pub mod Fields

@@ -1,7 +1,9 @@
 -- Where the parts of bytes that were read stand.
 use Prim.Native.Nat.{ℕ, zero, suc, _+_, _-_, min}
 use mathlib.Core.List.{List, [], _∷_, _++_}
+use mathlib.Core.Bool.{cond}
 use lib.ListN.{length, getD}
+use lib.Dec.{leb}
 use Rattle.state.specs.Bytes.{span, numberOf}
 use Rattle.state.specs.declared.Step.{Step}
 use Rattle.state.specs.declared.Step.the-variants as step
@@ -51,8 +53,17 @@ module _ (limit : ℕ) where
   unfoldable pub manifestEntries : List ℕ → List ℕ
   manifestEntries s = entryStarts lists s (endAt portability s 0)
 
--- ---- where a value without lists ends, by its lengths and tags alone: at most at the end of the bytes, whatever they are. Where it was read,
--- this is where it ends (proofs/Places.antt)
+-- the number that so many bytes at a position spell; 0 where there are fewer
+unfoldable pub numberAt : (width : ℕ) → List ℕ → ℕ → ℕ
+numberAt w s at = cond (leb (at + w) (length s)) (numberOf (span s at (at + w))) 0
+
+-- ---- where a value ends, by its lengths and tags alone: at most at the end of the bytes, whatever they are. Where it was read, this is where it
+-- ends (proofs/Values.antt)
+-- n entries further on
+abbrev pub skip : (key rest : ℕ → ℕ) → (n at : ℕ) → ℕ
+skip key rest zero at = at
+skip key rest (suc n) at = skip key rest n (rest (key at))
+
 unfoldable pub past : Fmt → List ℕ → ℕ → ℕ
 past done s at = at
 past (number w) s at = min (at + w) (length s)
@@ -60,7 +71,7 @@ past (tag k) s at = min (at + 1) (length s)
 past text s at = min (at + 4 + countAt s at) (length s)
 past (tagged k f) s at = past (f (getD s at 0)) s (min (at + 1) (length s))
 past (a then b) s at = past b s (past a s at)
-past (list w l u k r) s at = at
+past (list w l u k r) s at = skip (past k s) (past r s) (numberAt w s at) (min (at + w) (length s))
 
 -- the ranked bytes of the key of an entry that starts at a position
 unfoldable pub keyAt : Section → List ℕ → ℕ → List ℕ

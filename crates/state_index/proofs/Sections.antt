@@ -11,6 +11,7 @@ use Rattle.format.specs.Format.{Fmt, done, text, _then_, from}
 use Rattle.format.specs.Keys.{blockKey, connectorKey}
 use Rattle.format.specs.Manifest.{lists, inputDefinitions, numbered}
 use Rattle.format.specs.Places.{past, keyAt}
+use Rattle.format.specs.Values.{valueAt}
 use Rattle.state_index.specs.Keys.{textAt}
 
 -- ---- block keys and connector keys
@@ -115,11 +116,11 @@ in-full (suc (suc (suc (suc (suc (suc (suc (suc (suc m))))))))) h = absurd (omeg
 
 module _ (n : ℕ) (s : List ℕ) (at : ℕ) where
   pub enum-key : n ≤ 2 → textAt s at ≡ keyAt (numbered n) s at
-  unfolding numbered keyAt textAt
+  unfolding numbered keyAt valueAt
   enum-key h = let e : n - 2 ≡ 0 = omega arith in rw e
 
   pub input-key : 11 < n → textAt s at ≡ keyAt (numbered n) s at
-  unfolding numbered keyAt textAt
+  unfolding numbered keyAt valueAt
   input-key h = let e : n - 2 ≡ 10 + (n - 12) = omega arith in rw (e, ← getD-drop 10 lists (n - 12) inputDefinitions, last (n - 12))
 
   pub full-key : 2 < n → n ≤ 11 → {e : ℕ} → e ≡ past (numbered n .key) s at → span s at e ≡ keyAt (numbered n) s at

@@ -9,11 +9,8 @@ use lib.ListN.{length, getD, drop, drop-of-length-le}
 use lib.Seq.{drop-cons}
 use lib.Dec.{eqb}
 use borrow.Author.Tests.{eq-eqb, ne-eqb, lt-ltb, le-ltb}
-use Rattle.order.specs.declared.Order.{Order}
-use Rattle.order.specs.declared.Compared.{Compared}
-use Rattle.order.specs.Lex.{compared}
-use Rattle.format.specs.Lists.{isEqual, same}
-use Rattle.state_index.specs.Keys.{textAt, numberAt}
+use Rattle.format.specs.Places.{numberAt}
+use Rattle.state_index.specs.Keys.{textAt}
 use Rattle.state_index.specs.Sift.{rolled, spread, mark, slotAt}
 
 pub rolled-none : (t : List ℕ) → 0 ≡ rolled (drop (length t) t)
@@ -38,7 +35,7 @@ pub mark-short : (t : List ℕ) → length t < 8 → {a b : ℕ} → a ≡ rolle
 unfolding mark
 mark-short t h i k = k ∙ rw (lt-ltb (length t) 8 h, i)
 
-pub mark-long : (t : List ℕ) → 8 ≤ length t → {a b p q : ℕ} → a ≡ numberAt t 0 → p ≡ spread a → b ≡ numberAt t (length t - 8) → q ≡ spread b → p / 2 + q ≡ mark t
+pub mark-long : (t : List ℕ) → 8 ≤ length t → {a b p q : ℕ} → a ≡ numberAt 8 t 0 → p ≡ spread a → b ≡ numberAt 8 t (length t - 8) → q ≡ spread b → p / 2 + q ≡ mark t
 unfolding mark
 mark-long t h i k j l = rw (le-ltb (length t) 8 h, k, i, l, j)
 
@@ -57,9 +54,6 @@ module _ (s : List ℕ) (m p : ℕ) where
 pub slots-shared : (s : List ℕ) (m p q : ℕ) → textAt s p ≡ textAt s q → slotAt s m p ≡ slotAt s m q
 unfolding slotAt
 slots-shared s m p q e = rw e
-
-pub same-is : (t u : List ℕ) {x y : List ℕ} {c : Compared} {o : Order} → x ≡ t → y ≡ u → c ≡ compared x y → c .order ≡ o → isEqual o ≡ same t u
-same-is t u p q r h = rw (← p, ← q, ← h, r)
 
 module _ (v first h own : ℕ) where
   pub free-own : v ≡ first → not (eqb h own) ≡ (eqb v first && not (eqb h own))

@@ -5,7 +5,8 @@ use mathlib.Core.List.{List, [], _∷_}
 use mathlib.Core.Bool.{cond}
 use lib.ListN.{length}
 use lib.Dec.{ltb}
-use Rattle.state_index.specs.Keys.{textAt, numberAt}
+use Rattle.format.specs.Places.{numberAt}
+use Rattle.state_index.specs.Keys.{textAt}
 
 -- a number of few bytes
 unfoldable pub rolled : List ℕ → ℕ
@@ -18,7 +19,7 @@ spread n = n % 4294967296 * 1327217885 + n / 4294967296 * 1123411259
 
 -- a number of a text: of its first and its last eight bytes, or of all where there are fewer
 unfoldable pub mark : List ℕ → ℕ
-mark t = cond (ltb (length t) 8) (spread (rolled t)) (spread (numberAt t 0) / 2 + spread (numberAt t (length t - 8)))
+mark t = cond (ltb (length t) 8) (spread (rolled t)) (spread (numberAt 8 t 0) / 2 + spread (numberAt 8 t (length t - 8)))
 
 -- the slot, of m, of the text at a position
 unfoldable pub slotAt : (s : List ℕ) (m p : ℕ) → ℕ

@@ -1,5 +1,5 @@
 // The lent index: words that are positions of the bytes. Clearing, sorting and looking up.
-mod keys;
+pub mod keys;
 mod merge;
 mod sift;
 
@@ -64,7 +64,7 @@ pub fn clear(index: &mut [u32], from: usize, to: usize)
 }
 
 // A position n bytes further on, or the end of the bytes.
-fn ahead(s: &[u8], at: usize, n: usize) -> usize
+pub fn ahead(s: &[u8], at: usize, n: usize) -> usize
     ensures { λ r. ⌜ r ≡ min (at + n) (length (now (s .entry))) ⌝ }
 {
     if remaining(s, at) <= n {
@@ -145,7 +145,7 @@ pub fn key_part(s: &[u8], section: u8, at: usize) -> &[u8]
     part(s, at, key_end(s, section, at))
 }
 
-fn word_at(index: &[u32], i: usize) -> usize
+pub fn word_at(index: &[u32], i: usize) -> usize
     requires { ⌜ i < length (now index) ⌝ }
     ensures { λ r. ⌜ r ≡ getD (now (index .entry)) i 0 ⌝ }
 {

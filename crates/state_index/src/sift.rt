@@ -2,11 +2,11 @@
 use super::SortKey;
 use super::fill;
 use super::keys::byte_at;
-use super::merge::number_at;
+use super::keys::number_at;
 use super::merge::rising;
 use super::sort;
 use super::text_part;
-use order::Order;
+use state_key_order::same_bytes;
 ghost use mathlib.Core.Path.{_≡_};
 ghost use mathlib.Core.List.{map};
 ghost use mathlib.Core.Bool.{not, _&&_};
@@ -58,13 +58,7 @@ fn slot_at(s: &[u8], m: usize, p: u32) -> usize
 fn same_text(s: &[u8], a: u32, b: u32) -> bool
     ensures { λ r. ⌜ r ≡ same (textAt (now (s .entry)) a) (textAt (now (s .entry)) b) ⌝ }
 {
-    let c = order::compare(text_part(s, a as usize), text_part(s, b as usize));
-    let order = c.order;
-    match order {
-        Order::Less => false,
-        Order::Equal => true,
-        Order::Greater => false,
-    }
+    same_bytes(text_part(s, a as usize), text_part(s, b as usize))
 }
 
 // Whether slot h, in which v stands, is free: the first position stands in each that is, and in its own.

@@ -11,7 +11,7 @@ use state_wire::step_of;
 use state_wire::string;
 ghost use mathlib.Core.Path.{_≡_};
 ghost use Rattle.format.specs.Format.{scan};
-ghost use Rattle.format.specs.Lists.{isLess, before};
+ghost use Rattle.format.specs.Lists.{isLess, isEqual, before, same};
 ghost use Rattle.state_wire.specs.Fields.{maxSnapshotBytes};
 ghost use Rattle.format.specs.Keys.{blockKey, connectorKey};
 ghost use Rattle.state_key_order.specs.Compare.{blockKeysCompared, connectorKeysCompared, spansCompared};
@@ -40,6 +40,28 @@ pub fn precedes(left: &[u8], right: &[u8]) -> bool
     let c = order::compare(left, right);
     let order = c.order;
     is_less(order)
+}
+
+fn is_equal(order: Order) -> bool
+    ensures { λ r. ⌜ r ≡ isEqual order ⌝ }
+{
+    match order {
+        Order::Less => false,
+        Order::Equal => true,
+        Order::Greater => false,
+    }
+}
+
+// Whether two byte strings are the same.
+pub fn same_bytes(left: &[u8], right: &[u8]) -> bool
+    ensures { λ r. ⌜ r ≡ same (now (left .entry)) (now (right .entry)) ⌝ }
+{
+    if left.len() != right.len() {
+        return false;
+    }
+    let c = order::compare(left, right);
+    let order = c.order;
+    is_equal(order)
 }
 
 // Where the block key at a position ends.

@@ -7,7 +7,7 @@ use Rattle.state_index.proofs.sift.mark_of.Statement.{statement}
 use Rattle.state_index.proofs.sift.mark_of.Tie as tie
 use Rattle.state_index.proofs.sift.mark_of.Reads as reads
 use Rattle.state_index.proofs.sift.mark_of.Lts as lts
-use Rattle.state_index.proofs.merge.number_at.Reads as number-at-reads
+use Rattle.state_index.proofs.keys.number_at.Reads as number-at-reads
 use Rattle.state_index.proofs.sift.mix.Reads as mix-reads
 use Rattle.state_index.proofs.sift.roll.Reads as roll-reads
 

@@ -1,0 +1,8 @@
+-- `Sets`: words for lists. `Declarations` .. `Portability`: questions 11 to 32, group by group. `Order`: all of them in document 01's order.
+pub mod Sets
+pub mod Declarations
+pub mod References
+pub mod Slots
+pub mod Inputs
+pub mod Portability
+pub mod Order

@@ -1,0 +1,1 @@
+-- Laws of the tables, of marks, and of where parts end.
