@@ -12,8 +12,8 @@ use Rattle.text.proofs.Blocks.{both, neither}
 use Rattle.order.specs.declared.Order.{Order}
 use Rattle.order.specs.declared.Order.the-variants.{Less, Equal, Greater}
 use Rattle.order.specs.Lex.{lexCompare}
-use Rattle.order.proofs.Laws.{lex-trans, lex-equal-iff}
-use Rattle.format.specs.Lists.{isLess, isEqual, before, same, isIn, allDifferent}
+use Rattle.order.proofs.Laws.{lex-trans}
+use Rattle.format.specs.Lists.{isLess, before, same, isIn, allDifferent}
 use Rattle.format.specs.Format.{Rank, Rule, free, distinct, early, late, above}
 use Rattle.format.specs.Admits.{inOrder}
 use Rattle.format.specs.Pairwise.{Ascending, Different}

@@ -1,27 +1,20 @@
 -- What the places of specs/Places.antt are where bytes were read: of a list's entries, of the sections.
-use Prim.Native.Nat.{ℕ, zero, suc, _+_, _*_, _≤_, min}
+use Prim.Native.Nat.{ℕ, zero, suc, _+_, _*_, _≤_}
 use native.Mathlib.Omega.{arith}
-use native.Mathlib.Nat.{min-eq-left}
-use mathlib.Core.Path.{_≡_, refl, sym, ap, _∙_, subst}
+use mathlib.Core.Path.{_≡_, refl, ap, _∙_, subst}
 use mathlib.Core.List.{List, [], _∷_, _++_, map}
 use lib.ListN.{length, getD, take, drop, length-append}
 use lib.Seq.{take-at, drop-at}
-use lib.Dec.{ltb, leb, eqb}
-use Rattle.state.specs.Bytes.{AreBytes, span, numberOf}
-use Rattle.state.specs.Outcome.{Outcome, got, refused, stepOf}
-use Rattle.state.proofs.Bytes.{number-one}
-use Rattle.state.proofs.Outcome.{Yields, this, nothing, always, yielded, yields-so, yields-ask, yields-bind, onward}
-use Rattle.text.specs.Valid.{validUpTo}
-use Rattle.state_wire.specs.Fields.{readTag, readText}
-use Rattle.state_wire.proofs.Fields.{yields-number, yields-span}
-use Rattle.format.specs.Format.{Rule, Fmt, done, number, tag, text, tagged, _then_, list, El, entries, read, scan, encode, kept, afterKey, afterEntry, afterAll, from}
-use Rattle.format.specs.Admits.{shown, All}
+use Rattle.state.specs.Bytes.{span}
+use Rattle.state.specs.Outcome.{got, stepOf}
+use Rattle.state.proofs.Outcome.{Yields, this, always, yielded, yields-so, yields-ask, yields-bind, onward}
+use Rattle.format.specs.Format.{Rule, Fmt, _then_, list, El, entries, read, scan, kept, afterKey, afterEntry, afterAll, from}
+use Rattle.format.specs.Admits.{All}
 use Rattle.format.specs.Keys.{blockKey, connectorKey}
 use Rattle.format.specs.Manifest.{valueType, value, members, params, connectorKeys, blockHead, blockRest, connectorRest, slotRest, inputRest, Section, entry, counted, lists, sections, sequence, portability, manifest}
-use Rattle.format.specs.Places.{endOf, countAt, endAt, starts, sectionStarts, entryStarts, manifestStarts, manifestEntries, past, keyAt}
+use Rattle.format.specs.Places.{endOf, countAt, endAt, starts, sectionStarts, entryStarts, manifestStarts, manifestEntries}
 use Rattle.format.specs.Least.{least}
 use Rattle.format.specs.Reading.{indexWords}
-use Rattle.format.proofs.Sound.{part-shown, read-sound}
 use Rattle.format.proofs.Bounds.{yields-count, ahead, list-takes, list-counts}
 use Rattle.format.proofs.Steps.{scan-then}
 use Rattle.format.proofs.Values.{self}

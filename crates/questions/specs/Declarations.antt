@@ -61,10 +61,10 @@ portsHold k way i (p ∷ ps) = portHolds k way i (p .0) && portsHold k way (suc 
 unfoldable pub blockAnswer : List (Entry enums) → Entry blocks → ℕ
 blockAnswer es b =
     first (
-      12 unless (kindHolds b)
-      ∷ 13 unless (paramsHold es b)
-      ∷ 14 unless (portsHold (blockKeyOf b) 0 0 (inputs b) && portsHold (blockKeyOf b) 1 0 (outputs b))
-      ∷ []
+    12 unless (kindHolds b)
+    ∷ 13 unless (paramsHold es b)
+    ∷ 14 unless (portsHold (blockKeyOf b) 0 0 (inputs b) && portsHold (blockKeyOf b) 1 0 (outputs b))
+    ∷ []
     )
 
 -- ---- "15. Ports of all blocks equal section 4's keys?"

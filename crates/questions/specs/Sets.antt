@@ -45,7 +45,6 @@ unfoldable pub _unless_ : (question : ℕ) → Bool → ℕ
 _unless_ q b = cond b 0 q
 
 infix 70 _unless_
-
 -- the first that says no
 unfoldable pub first : List ℕ → ℕ
 first [] = 0

@@ -5,8 +5,9 @@ use mathlib.Core.List.{List, [], _∷_, _++_, map}
 use lib.ListN.{length, take}
 use Rattle.state.specs.Bytes.{AreBytes, span}
 use Rattle.state_wire.specs.Fields.{maxSnapshotBytes}
-use Rattle.format.specs.Format.{El}
-use Rattle.format.specs.Admits.{All}
+use mathlib.Core.Bool.{true}
+use Rattle.format.specs.Format.{El, encode}
+use Rattle.format.specs.Admits.{All, shown, inOrder}
 use Rattle.format.specs.Manifest.{Section, entry, counted, lists, sequence, manifest}
 use Rattle.format.specs.Fields.{Entry}
 use Rattle.format.specs.Places.{manifestStarts, manifestEntries, past}
@@ -41,15 +42,17 @@ roomStart s = tableStart 13 (manifestOf s)
 -- an index as `read_manifest` leaves it where it refuses nothing
 pub record Tabled (s index : List ℕ) : Type 0 where
   pub bytes : AreBytes s
+  pub short : length s ≤ maxSnapshotBytes
   pub well : Well maxSnapshotBytes manifest s 0
   pub whole : past manifest s 0 ≡ length s
   pub words : take (roomStart s) index ≡ manifestStarts maxSnapshotBytes s ++ manifestEntries maxSnapshotBytes s
   pub long : indexWords (length s) ≤ length index
 
--- the entries of a section: each was read at its word
+-- the entries of a section: each was read at its word, and their keys stand as the section's rule asks
 pub record Table (e : Section) (s ps : List ℕ) (vs : List (Entry e)) : Type 0 where
   pub values : map (valueAt (entry e) s) ps ≡ vs
   pub well : All (Well maxSnapshotBytes (entry e) s) ps
+  pub order : inOrder (e .rule) (map (λ v. shown (e .rule) (encode (e .key) (v .0))) vs) [] ≡ true
 
 -- what asking a question leaves of the index: its tables
 pub record Leaves (s old new : List ℕ) : Type 0 where
