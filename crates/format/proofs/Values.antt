@@ -22,6 +22,11 @@ use Rattle.format.specs.Values.{valuesAt, valueAt, Well, WellEach}
 use Rattle.format.proofs.Sound.{part-shown, read-sound}
 use Rattle.format.proofs.Bounds.{yields-count, ahead}
 
+-- so many values are so many
+pub values-length : {K R : Type 0} (key : ℕ → K) (rest : ℕ → R) (keyEnd restEnd : ℕ → ℕ) (n at : ℕ) → length (valuesAt key rest keyEnd restEnd n at) ≡ n
+values-length key rest keyEnd restEnd zero at = refl
+values-length key rest keyEnd restEnd (suc n) at = ap suc (values-length key rest keyEnd restEnd n (restEnd (keyEnd at)))
+
 pub self : {A : Type 0} (o : Outcome A) → Yields (λ v n. o ≡ got v n) o
 self (got v n) = this refl
 self (refused q p) = nothing

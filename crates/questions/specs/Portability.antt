@@ -1,6 +1,8 @@
 -- Questions 31 and 32: whether a manifest is bound to a target.
 use Prim.Native.Nat.{ℕ}
-use mathlib.Core.List.{List, [], _∷_}
+use Prim.Native.Char.{code}
+use Prim.Native.String.{String, [] as none, _∷_ as _then_}
+use mathlib.Core.List.{List, [], _∷_, map}
 use mathlib.Core.Bool.{Bool, true, not, cond}
 use lib.ListN.{length}
 use lib.Dec.{ltb, eqb}
@@ -9,6 +11,32 @@ use Rattle.format.specs.Format.{El}
 use Rattle.format.specs.Manifest.{blocks, portability, manifest}
 use Rattle.format.specs.Fields.{Entry, blocksOf, portabilityOf, portabilityTag, target, classPath}
 use Rattle.questions.specs.Sets.{all, any, _unless_}
+
+-- ---- state_manifest.rs, `TARGET_BOUND_CLASSES`: the engine's fifteen
+unfoldable pub ascii : String → List ℕ
+ascii none = []
+ascii (c then s) = code c ∷ ascii s
+
+unfoldable pub targetBoundClasses : List (List ℕ)
+targetBoundClasses =
+    map ascii (
+      "CDL.Psychrometrics.DewPoint_TDryBulPhi"
+      ∷ "CDL.Psychrometrics.SpecificEnthalpy_TDryBulPhi"
+      ∷ "CDL.Psychrometrics.WetBulb_TDryBulPhi"
+      ∷ "CDL.Reals.Acos"
+      ∷ "CDL.Reals.Asin"
+      ∷ "CDL.Reals.Atan"
+      ∷ "CDL.Reals.Atan2"
+      ∷ "CDL.Reals.Cos"
+      ∷ "CDL.Reals.Exp"
+      ∷ "CDL.Reals.Log"
+      ∷ "CDL.Reals.Log10"
+      ∷ "CDL.Reals.Sin"
+      ∷ "CDL.Reals.Sources.Sin"
+      ∷ "CDL.Reals.Tan"
+      ∷ "CDL.Utilities.SunRiseSet"
+      ∷ []
+    )
 
 -- some block's class is among the names
 unfoldable pub someBound : (bound : List (List ℕ)) → List (Entry blocks) → Bool

@@ -35,7 +35,7 @@ module _ (le : ℕ → ℕ → Bool) where
   ordered-get (x ∷ l) o zero (suc j) h k = below-get x l (o .0) j (omega arith)
   ordered-get (x ∷ l) o (suc i) (suc j) h k = ordered-get l (o .1) i j (omega arith) (omega arith)
 
-span-get : (l : List ℕ) (from to i : ℕ) → from ≤ i → i < to → getD (span l from to) (i - from) 0 ≡ getD l i 0
+pub span-get : (l : List ℕ) (from to i : ℕ) → from ≤ i → i < to → getD (span l from to) (i - from) 0 ≡ getD l i 0
 span-get l from to i h k =
     let e : from + (i - from) ≡ i = omega arith in
     getD-take (to - from) (drop from l) (i - from) 0 (omega arith) ∙ getD-drop from l (i - from) 0 ∙ rw e

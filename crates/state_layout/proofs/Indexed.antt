@@ -11,10 +11,10 @@ use Rattle.format.specs.Manifest.{Section, counted, lists, sequence, portabilit
 use Rattle.format.specs.Fields.{enumsOf, blocksOf, connectorsOf, connectionsOf, scheduleOf, connectorOrderOf, driversOf, slotsOf, externalInputsOf, boundaryOutputsOf, inputDefinitionsOf}
 use Rattle.format.specs.Places.{numberAt, endAt, sectionStarts, manifestStarts, manifestEntries, past}
 use Rattle.format.specs.Reading.{indexWords}
-use Rattle.format.specs.Values.{valuesAt, valueAt, Well}
+use Rattle.format.specs.Values.{valueAt, Well}
 use Rattle.format.proofs.Places.{end-got}
 use Rattle.format.proofs.Sizes.{sections-take}
-use Rattle.format.proofs.Values.{well-then}
+use Rattle.format.proofs.Values.{values-length, well-then}
 use Rattle.state_index.proofs.Lists.{slice-run}
 use Rattle.state_index.specs.Sort.{Kept}
 use Rattle.state_layout.specs.Tables.{manifestOf, counts, total, tableStart, tableOf, roomStart, Tabled, Table, Leaves}
@@ -183,10 +183,6 @@ total-next [] zero = refl
 total-next [] (suc i) = refl
 total-next (n ∷ ns) zero = omega arith
 total-next (n ∷ ns) (suc i) = omega (arith, total-next ns i)
-
-values-length : {K R : Type 0} (key : ℕ → K) (rest : ℕ → R) (keyEnd restEnd : ℕ → ℕ) (n at : ℕ) → length (valuesAt key rest keyEnd restEnd n at) ≡ n
-values-length key rest keyEnd restEnd zero at = refl
-values-length key rest keyEnd restEnd (suc n) at = ap suc (values-length key rest keyEnd restEnd n (restEnd (keyEnd at)))
 
 lists-counts : (s : List ℕ) (es : List Section) (at : ℕ) → Well limit (sequence (map counted es)) s at → (i : ℕ) → i < length es
     → getD (counts es (valueAt (sequence (map counted es)) s at)) i 0 ≡ numberAt 4 s (getD (sectionStarts limit (map counted es) s at) i 0)

@@ -1,5 +1,10 @@
--- `Choosing`: where parts end that a tag chooses. `Tables`, `Indexed`: what the words of the index are. `Names`: the keys of entries.
+-- `Choosing`: where parts end that a tag chooses. `Tables`, `Indexed`: what the words of the index are. `Names`: the keys of entries. `Kept`:
+-- what is left of an index of which some words changed. `Marked`, `Marking`: marks. `Classed`: the class of an enum value.
 pub mod Choosing
 pub mod Tables
 pub mod Indexed
 pub mod Names
+pub mod Kept
+pub mod Marked
+pub mod Marking
+pub mod Classed
