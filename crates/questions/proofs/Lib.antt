@@ -1,1 +1,2 @@
--- Laws of the questions.
+-- Laws of the questions. `Chains`: the first that says no.
+pub mod Chains

@@ -20,22 +20,22 @@ ascii (c then s) = code c ∷ ascii s
 unfoldable pub targetBoundClasses : List (List ℕ)
 targetBoundClasses =
     map ascii (
-      "CDL.Psychrometrics.DewPoint_TDryBulPhi"
-      ∷ "CDL.Psychrometrics.SpecificEnthalpy_TDryBulPhi"
-      ∷ "CDL.Psychrometrics.WetBulb_TDryBulPhi"
-      ∷ "CDL.Reals.Acos"
-      ∷ "CDL.Reals.Asin"
-      ∷ "CDL.Reals.Atan"
-      ∷ "CDL.Reals.Atan2"
-      ∷ "CDL.Reals.Cos"
-      ∷ "CDL.Reals.Exp"
-      ∷ "CDL.Reals.Log"
-      ∷ "CDL.Reals.Log10"
-      ∷ "CDL.Reals.Sin"
-      ∷ "CDL.Reals.Sources.Sin"
-      ∷ "CDL.Reals.Tan"
-      ∷ "CDL.Utilities.SunRiseSet"
-      ∷ []
+    "CDL.Psychrometrics.DewPoint_TDryBulPhi"
+    ∷ "CDL.Psychrometrics.SpecificEnthalpy_TDryBulPhi"
+    ∷ "CDL.Psychrometrics.WetBulb_TDryBulPhi"
+    ∷ "CDL.Reals.Acos"
+    ∷ "CDL.Reals.Asin"
+    ∷ "CDL.Reals.Atan"
+    ∷ "CDL.Reals.Atan2"
+    ∷ "CDL.Reals.Cos"
+    ∷ "CDL.Reals.Exp"
+    ∷ "CDL.Reals.Log"
+    ∷ "CDL.Reals.Log10"
+    ∷ "CDL.Reals.Sin"
+    ∷ "CDL.Reals.Sources.Sin"
+    ∷ "CDL.Reals.Tan"
+    ∷ "CDL.Utilities.SunRiseSet"
+    ∷ []
     )
 
 -- some block's class is among the names

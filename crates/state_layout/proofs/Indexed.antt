@@ -197,6 +197,10 @@ start-le : (m : El manifest) (k : ℕ) → k ≤ 13 → tableStart k m ≤ table
 unfolding manifest tableStart
 start-le m k h = omega (arith, total-le (counts lists (m .1)) (k - 2) 11 (omega arith))
 
+-- every table stands within the index
+pub start-there : {s index : List ℕ} → Tabled s index → (k : ℕ) → k ≤ 13 → tableStart k (manifestOf s) ≤ length index
+start-there {s} t k h = omega (arith, room t, start-le (manifestOf s) k h)
+
 -- ---- the loop that adds up the counts of the sections before one
 pub record Reaching (s index : List ℕ) (section w k : ℕ) : Type 0 where
   pub tabled : Tabled s index

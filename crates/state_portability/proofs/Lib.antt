@@ -1,0 +1,3 @@
+-- `Padded`: names in rows, and how a name is searched among them.
+pub mod Padded
+pub mod Bounding
