@@ -30,3 +30,10 @@ unfolding first
 first-append [] ys = refl
 first-append (zero ∷ xs) ys = first-append xs ys
 first-append (suc q ∷ xs) ys = refl
+
+-- of a group in front of others: the first that says no is in it, or behind it
+pub group-no : (xs ys : List ℕ) {n : ℕ} → n ≡ first xs → (n ≡ 0 → ⊥) → n ≡ first (xs ++ ys)
+group-no xs ys {n} e h = one-says-no ys n h ∙ ap (λ (k : ℕ). first (k ∷ ys)) e ∙ sym (first-append xs ys)
+
+pub group-yes : (xs ys : List ℕ) {n : ℕ} → n ≡ first xs → n ≡ 0 → first (xs ++ ys) ≡ first ys
+group-yes xs ys e h = first-append xs ys ∙ none-says-no ys (sym e ∙ h)

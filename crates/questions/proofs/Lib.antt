@@ -1,2 +1,3 @@
 -- Laws of the questions. `Chains`: the first that says no.
 pub mod Chains
+pub mod Late

@@ -26,6 +26,12 @@ pub struct Starts {
     pub at: [u32; 12],
 }
 
+// What a call on a manifest answers: acceptance with the starts; or the refusal, and then the starts are 0.
+pub struct Decoded {
+    pub answer: Answer,
+    pub starts: Starts,
+}
+
 // The section numbers.
 pub struct Section(pub u8);
 

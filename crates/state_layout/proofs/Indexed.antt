@@ -193,7 +193,7 @@ lists-counts s (e ∷ es) at w (suc i) h =
     let p = well-then limit s (counted e) (sequence (map counted es)) at w in
     rw (end-got limit (counted e) s at (p .0 .reads)) (lists-counts s es (past (counted e) s at) (p .1) i (omega arith))
 
-start-le : (m : El manifest) (k : ℕ) → k ≤ 13 → tableStart k m ≤ tableStart 13 m
+pub start-le : (m : El manifest) (k : ℕ) → k ≤ 13 → tableStart k m ≤ tableStart 13 m
 unfolding manifest tableStart
 start-le m k h = omega (arith, total-le (counts lists (m .1)) (k - 2) 11 (omega arith))
 

@@ -22,6 +22,7 @@ use Rattle.state.specs.declared.Field.the-variants as field
 use Rattle.state_wire.specs.Fields.{readCount}
 use Rattle.state_manifest_codec.specs.Tables.{Fills}
 use Rattle.format.proofs.Places.{starts-length}
+use Rattle.format.specs.Values.{valueAt}
 use Rattle.format.proofs.Values.{value-got}
 use Rattle.state_index.specs.Keys.{textAt}
 use Rattle.state_index.specs.Sort.{Kept}
@@ -29,7 +30,7 @@ use Rattle.state_index.specs.Sort.{Kept}
 module _ (limit : ℕ) (s : List ℕ) where
   -- a text that was read is the one that stands there
   text-there : (at m : ℕ) → scan limit text s at ≡ step.Next m → span s (at + 4) m ≡ textAt s at
-  unfolding scan textAt
+  unfolding scan valueAt
   text-there at m e = ap (span s (at + 4)) (sym (step-yields (value-got limit s text at) (sym e) refl .2 .0))
 
   entry-there : (at m : ℕ) → scan limit text s at ≡ step.Next m → endAt limit (text then done) s at ≡ m

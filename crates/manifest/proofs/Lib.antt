@@ -1,0 +1,3 @@
+-- `Ending`: how a call ends.
+pub mod Ending
+pub mod Judging

@@ -1,0 +1,68 @@
+// The entry points: what a call on a manifest answers, and what it leaves of the lent index.
+use state::Answer;
+use state::Decoded;
+use state::Starts;
+use state_index::clear;
+ghost use mathlib.Core.Path.{_≡_};
+ghost use mathlib.Core.Bool.{cond};
+ghost use mathlib.Core.List.{_++_};
+ghost use Prim.Native.Nat.{_-_, _≤_};
+ghost use lib.Dec.{eqb};
+ghost use lib.ListN.{length, take, replicate};
+ghost use Rattle.state.specs.Outcome.{offsetOf};
+ghost use Rattle.questions.specs.Answers.{offsetAt, startsOf, refusal, acceptance};
+
+// base + position, or the largest number.
+fn offset_of(base: u64, position: usize) -> u64
+    ensures { λ r. ⌜ r ≡ offsetOf base position ⌝ }
+{
+    let p = position as u64;
+    if 18446744073709551615 - base < p {
+        return 18446744073709551615;
+    }
+    base + p
+}
+
+fn offset_at(base: u64, question: u8, position: usize) -> u64
+    ensures { λ r. ⌜ r ≡ offsetAt base question position ⌝ }
+{
+    if question <= 2 {
+        return 0;
+    }
+    offset_of(base, position)
+}
+
+fn starts_of(index: &[u32]) -> Starts
+    requires { ⌜ 12 ≤ length (now index) ⌝ }
+    ensures { λ r. ⌜ r ≡ startsOf (take 12 (now (index .entry))) ⌝ }
+{
+    Starts {
+        at: [
+            index[0], index[1], index[2], index[3], index[4], index[5], index[6], index[7], index[8], index[9], index[10], index[11],
+        ],
+    }
+}
+
+// A refusal: the index is cleared but after question 2.
+fn refused(base: u64, question: u8, position: usize, index: &mut [u32]) -> Decoded
+    ensures { λ r. ⌜ r ≡ refusal base question position ⌝ }
+    ensures { λ _. ⌜ now (index .exit) ≡ cond (eqb question 2) (now (index .entry)) (replicate (length (now (index .entry))) 0) ⌝ }
+{
+    let answer = Answer::Refused(question, offset_at(base, question, position));
+    let starts = Starts { at: [0u32; 12] };
+    if question != 2 {
+        clear(index, 0, index.len());
+    }
+    Decoded { answer, starts }
+}
+
+// Acceptance: the first twelve words are the starts, and the others are cleared.
+fn accepted(index: &mut [u32]) -> Decoded
+    requires { ⌜ 12 ≤ length (now index) ⌝ }
+    ensures { λ r. ⌜ r ≡ acceptance (take 12 (now (index .entry))) ⌝ }
+    ensures { λ _. ⌜ now (index .exit) ≡ take 12 (now (index .entry)) ++ replicate (length (now (index .entry)) - 12) 0 ⌝ }
+{
+    let starts = starts_of(index);
+    clear(index, 12, index.len());
+    Decoded { answer: Answer::Accepted, starts }
+}
