@@ -32,6 +32,12 @@ pub struct Decoded {
     pub starts: Starts,
 }
 
+// What a call for units answers: the state words and the units; or the refusal.
+pub enum Units {
+    Of(u64, u64),
+    Refused(u8, u64),
+}
+
 // The section numbers.
 pub struct Section(pub u8);
 
