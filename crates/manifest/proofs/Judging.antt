@@ -8,14 +8,14 @@ use lib.Seq.{take-at, take-take}
 use lib.Dec.{leb, eqb}
 use borrow.Author.Tests.{leb-true, le-leb, eqb-true}
 use Rattle.state.specs.Bytes.{AreBytes}
-use Rattle.state.specs.Outcome.{Outcome, got, refused, stepOf}
+use Rattle.state.specs.Outcome.{got, refused, stepOf}
 use Rattle.state.specs.declared.Step.{Step}
 use Rattle.state.specs.declared.Step.the-variants as step
 use Rattle.state.proofs.Outcome.{Yields, this, yielded, step-refused, step-yields, yields-ask, yields-bind}
 use Rattle.state_wire.specs.Fields.{maxSnapshotBytes}
 use Rattle.format.specs.Format.{El, read}
 use Rattle.format.specs.Manifest.{Section, entry, counted, lists, sequence, portability, manifest}
-use Rattle.format.specs.Places.{countAt, numberAt, endAt, starts, sectionStarts, entryStarts, manifestStarts, manifestEntries, past}
+use Rattle.format.specs.Places.{countAt, numberAt, starts, sectionStarts, entryStarts, manifestStarts, manifestEntries, past}
 use Rattle.format.specs.Reading.{indexWords, readSections, readManifest}
 use Rattle.format.specs.Values.{valueAt, Well}
 use Rattle.format.proofs.Places.{end-got, starts-length}
@@ -23,7 +23,7 @@ use Rattle.format.proofs.Values.{self, values-length, value-got, well, well-the
 use Rattle.questions.specs.Portability.{targetBoundClasses}
 use Rattle.questions.specs.Order.{firstFailing}
 use Rattle.questions.specs.Answers.{judged, judge}
-use Rattle.questions.proofs.Late.{late-failing}
+use Rattle.questions.proofs.Numbers.{late-failing}
 use Rattle.state_layout.specs.Tables.{manifestOf, counts, total, tableStart, roomStart, Tabled, Leaves}
 use Rattle.state_layout.proofs.Indexed.{starts-twelve, rows, start-le, start-there}
 use Rattle.state_manifest_codec.specs.Reads.{Reads}
@@ -89,7 +89,10 @@ module _ {s old new : List ℕ} {n : ℕ} (bytes : AreBytes s) {r : Step} (reads
       let w : Well limit manifest s 0 = well limit s manifest 0 (omega arith) (passed .2 .reads) in
       let e : past manifest s 0 ≡ n = yielded (subst (Yields (λ v m. (past manifest s 0 ≡ m) × (valueAt manifest s 0 ≡ v))) (passed .2 .reads) (value-got limit s manifest 0)) .0 in
       record {
-        bytes = bytes; short = passed .2 .short; well = w; whole = e ∙ passed .2 .whole;
+        bytes = bytes;
+        short = passed .2 .short;
+        well = w;
+        whole = e ∙ passed .2 .whole;
         words = subst (λ (k : ℕ). take k new ≡ manifestStarts limit s ++ manifestEntries limit s) (words-long s w) (reads .starts n next);
         long = rw (reads .long) (passed .2 .words);
       }
@@ -97,20 +100,21 @@ module _ {s old new : List ℕ} {n : ℕ} (bytes : AreBytes s) {r : Step} (reads
 -- ---- the answer
 tabled-starts : {s index : List ℕ} → Tabled s index → (12 ≤ length index) × (take 12 index ≡ manifestStarts limit s)
 tabled-starts {s} {index} t =
-    let f : 12 ≤ roomStart s = omega (arith, rows (manifestOf s) .first, start-le (manifestOf s) 2 (omega arith)) in
-    (omega (arith, f, start-there t 13 (omega arith)),
-    sym (take-take 12 (roomStart s) index f) ∙ ap (take 12) (t .words) ∙ take-at (manifestStarts limit s) (manifestEntries limit s) 12 (starts-twelve t))
+    let f : 12 ≤ roomStart s = omega (arith, rows (manifestOf s) .first, start-le (manifestOf s) 2 (omega arith)) in (
+      omega (arith, f, start-there t 13 (omega arith)),
+      sym (take-take 12 (roomStart s) index f) ∙ ap (take 12) (t .words) ∙ take-at (manifestStarts limit s) (manifestEntries limit s) 12 (starts-twelve t),
+    )
 
 module _ {s old new : List ℕ} (revision : ℕ) {r : Step} (reads : Reads s r old new) where
   -- refused while reading
-  pub judge-unread : {q p : ℕ} → r ≡ step.Refused q p → Judges s revision (step.Refused q p) old new
+  pub judge-unread : {q p : ℕ} → r ≡ step.Refused q p → Judges s revision r old new
   unfolding judge
   judge-unread {q} {p} e =
       let o : readManifest limit s (length old) ≡ refused q p = step-refused (readManifest limit s (length old)) (reads .is) e in
       record {
-        is = rw o;
-        starts = λ n i. let z : _≡_ {A = ℕ} 0 1 = cc in absurd (omega arith);
-        untouched = λ x i. reads .untouched q p e (let z : q ≡ 2 = cc i in omega (arith, z));
+        is = e ∙ rw o;
+        starts = λ n i. let z : _≡_ {A = ℕ} 0 1 = cc (sym e ∙ i) in absurd (omega arith);
+        untouched = λ x i. reads .untouched q p e (let z : q ≡ 2 = cc (sym e ∙ i) in omega (arith, z));
         long = reads .long;
       }
 
@@ -131,6 +135,7 @@ module _ {s old new : List ℕ} (revision : ℕ) {r : Step} (reads : Reads s r o
         says : (q : ℕ) → (q ≡ 0 → ⊥) → step.Refused q n ≡ stepOf (judged q (manifestOf s) n)
         says zero h = absurd (h refl)
         says (suc q) h = refl
+
         late : 11 ≤ q
         late = rw asks (late-failing targetBoundClasses revision (manifestOf s) (λ e. h (asks ∙ e)))
 

@@ -2,7 +2,10 @@
 use state::Answer;
 use state::Decoded;
 use state::Starts;
+use state::Step;
 use state_index::clear;
+use state_manifest_codec::read_manifest;
+use state_manifest_validation::validate_manifest;
 ghost use mathlib.Core.Path.{_≡_};
 ghost use mathlib.Core.Bool.{cond};
 ghost use mathlib.Core.List.{_++_};
@@ -10,7 +13,9 @@ ghost use Prim.Native.Nat.{_-_, _≤_};
 ghost use lib.Dec.{eqb};
 ghost use lib.ListN.{length, take, replicate};
 ghost use Rattle.state.specs.Outcome.{offsetOf};
-ghost use Rattle.questions.specs.Answers.{offsetAt, startsOf, refusal, acceptance};
+ghost use Rattle.questions.specs.Portability.{targetBoundClasses};
+ghost use Rattle.questions.specs.Answers.{offsetAt, startsOf, refusal, acceptance, decodeManifest, decodedIndex};
+ghost use Rattle.manifest.specs.Judges.{Judges};
 
 // base + position, or the largest number.
 fn offset_of(base: u64, position: usize) -> u64
@@ -38,7 +43,18 @@ fn starts_of(index: &[u32]) -> Starts
 {
     Starts {
         at: [
-            index[0], index[1], index[2], index[3], index[4], index[5], index[6], index[7], index[8], index[9], index[10], index[11],
+            index[0],
+            index[1],
+            index[2],
+            index[3],
+            index[4],
+            index[5],
+            index[6],
+            index[7],
+            index[8],
+            index[9],
+            index[10],
+            index[11],
         ],
     }
 }
@@ -64,5 +80,35 @@ fn accepted(index: &mut [u32]) -> Decoded
 {
     let starts = starts_of(index);
     clear(index, 12, index.len());
-    Decoded { answer: Answer::Accepted, starts }
+    Decoded {
+        answer: Answer::Accepted,
+        starts,
+    }
+}
+
+// Questions 1 to 32 on positions.
+fn judge(s: &[u8], revision: u32, index: &mut [u32]) -> Step
+    ensures { λ r. ⌜ Judges (now (s .entry)) revision r (now (index .entry)) (now (index .exit)) ⌝ }
+{
+    let read = read_manifest(s, index);
+    let Step::Next(n) = read else {
+        return read;
+    };
+    let question = validate_manifest(s, revision, index);
+    if question != 0 {
+        return Step::Refused(question, n);
+    }
+    Step::Next(n)
+}
+
+// Reads a manifest and asks all questions about it; `index` has at least n ÷ 2 + 16 words.
+pub fn decode_manifest(bytes: &[u8], base: u64, revision: u32, index: &mut [u32]) -> Decoded
+    ensures { λ r. ⌜ r ≡ decodeManifest targetBoundClasses (now (bytes .entry)) base revision (now (index .entry)) ⌝ }
+    ensures { λ _. ⌜ now (index .exit) ≡ decodedIndex targetBoundClasses (now (bytes .entry)) revision (now (index .entry)) ⌝ }
+{
+    let judged = judge(bytes, revision, index);
+    match judged {
+        Step::Next(_) => accepted(index),
+        Step::Refused(question, position) => refused(base, question, position, index),
+    }
 }

@@ -1,8 +1,10 @@
 -- The first question that says no, one after another.
 use Prim.Native.Nat.{ℕ, zero, suc}
+use native.Mathlib.Omega.{arith}
 use mathlib.Core.Path.{_≡_, refl, sym, ap, _∙_}
 use mathlib.Core.Bool.{Bool, true, false}
-use mathlib.Core.List.{List, [], _∷_, _++_}
+use mathlib.Core.List.{List, [], _∷_, _++_, map}
+use Rattle.format.specs.Admits.{All}
 use Rattle.questions.specs.Sets.{_unless_, first}
 
 -- a question that says yes, one that says no
@@ -37,3 +39,18 @@ group-no xs ys {n} e h = one-says-no ys n h ∙ ap (λ (k : ℕ). first (k ∷ y
 
 pub group-yes : (xs ys : List ℕ) {n : ℕ} → n ≡ first xs → n ≡ 0 → first (xs ++ ys) ≡ first ys
 group-yes xs ys e h = first-append xs ys ∙ none-says-no ys (sym e ∙ h)
+
+-- ---- where none says no
+pub first-none : (q : ℕ) (qs : List ℕ) → first (q ∷ qs) ≡ 0 → (q ≡ 0) × (first qs ≡ 0)
+unfolding first
+first-none zero qs h = (refl, h)
+first-none (suc q) qs h = absurd (omega arith)
+
+pub unless-none : (q : ℕ) (b : Bool) → suc q unless b ≡ 0 → b ≡ true
+unfolding _unless_
+unless-none q true h = refl
+unless-none q false h = absurd (omega arith)
+
+pub each-none : {A : Type 0} (f : A → ℕ) (xs : List A) → first (map f xs) ≡ 0 → All (λ x. f x ≡ 0) xs
+each-none f [] h = tt
+each-none f (x ∷ xs) h = let p = first-none (f x) (map f xs) h in (p .0, each-none f xs (p .1))

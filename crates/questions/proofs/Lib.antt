@@ -1,3 +1,8 @@
--- Laws of the questions. `Chains`: the first that says no.
+-- Laws of the questions. `Chains`: the first that says no. `Cases`, `Rows`: a table of manifests and their answers. `Ports`, `Impossible`: refusals that
+-- cannot arise. `Numbers`: the order of the questions.
 pub mod Chains
-pub mod Late
+pub mod Cases
+pub mod Rows
+pub mod Ports
+pub mod Impossible
+pub mod Numbers

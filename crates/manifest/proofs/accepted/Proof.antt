@@ -4,24 +4,16 @@ use mathlib.Core.Path.{ap}
 use borrow.Author.Needs.{needs}
 use Rattle.manifest.proofs.accepted.Statement.{statement}
 use Rattle.manifest.proofs.accepted.Tie as tie
-use Rattle.manifest.proofs.accepted.Reads as reads
-use Rattle.manifest.proofs.accepted.Lts as lts
-use Rattle.manifest.proofs.starts_of.Reads as starts-of-reads
-use Rattle.state_index.proofs.clear.Reads as clear-reads
 
--- src/lib.rt:65:9
 starts-of-requires : tie.Need-starts-of-requires
 starts-of-requires c κs = search needs
 
--- src/lib.rt:66:5
 clear-requires : tie.Need-clear-requires
 clear-requires c κs = search needs
 
--- src/lib.rt:60:1
 same-length : tie.Need-same-length
 same-length c = search needs
 
--- src/lib.rt:60:1
 returns : tie.Need-returns
 returns c = (ap (λ x. record { answer = Accepted; starts = x }) (c .before .before .before .before .starts-of .ensures), cleared-behind (c .before .before .before .before .before .before .before .args .index .now) 12 (c .before .before .clear .ensures))
 

@@ -2,19 +2,13 @@ use Rattle.manifest.proofs.Ending.{offset-first, offset-later}
 use borrow.Author.Needs.{needs}
 use Rattle.manifest.proofs.offset_at.Statement.{statement}
 use Rattle.manifest.proofs.offset_at.Tie as tie
-use Rattle.manifest.proofs.offset_at.Reads as reads
-use Rattle.manifest.proofs.offset_at.Lts as lts
-use Rattle.manifest.proofs.offset_of.Reads as offset-of-reads
 
--- src/lib.rt:30:9
 returns : tie.Need-returns
 returns c = offset-first _ _ _ (c .if1 .taken)
 
--- src/lib.rt:32:5
 offset-of-requires : tie.Need-offset-of-requires
 offset-of-requires c κs = search needs
 
--- src/lib.rt:26:1
 returns-2 : tie.Need-returns-2
 returns-2 c = offset-later _ _ _ (c .before .if1 .left) (c .offset-of .ensures)
 

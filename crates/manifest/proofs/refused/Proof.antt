@@ -7,28 +7,19 @@ use Prim.Native.Nat.{ℕ}
 use borrow.Author.Needs.{needs}
 use Rattle.manifest.proofs.refused.Statement.{statement}
 use Rattle.manifest.proofs.refused.Tie as tie
-use Rattle.manifest.proofs.refused.Reads as reads
-use Rattle.manifest.proofs.refused.Lts as lts
-use Rattle.manifest.proofs.offset_at.Reads as offset-at-reads
-use Rattle.state_index.proofs.clear.Reads as clear-reads
 
--- src/lib.rt:51:44
 offset-at-requires : tie.Need-offset-at-requires
 offset-at-requires c κs = search needs
 
--- src/lib.rt:54:9
 clear-requires : tie.Need-clear-requires
 clear-requires c κs = search needs
 
--- src/lib.rt:47:1
 same-length : tie.Need-same-length
 same-length c = search needs
 
--- src/lib.rt:47:1
 returns : tie.Need-returns
 returns c = (ap (λ (x : ℕ). record { answer = Refused (c .before .before .before .before .before .before .before .args .question) x; starts = startsOf (replicate 12 0) }) (c .before .before .before .before .before .offset-at .ensures), cleared-all (c .before .before .before .before .before .before .before .args .index .now) _ (c .before .before .before .before .if1 .taken) (c .before .before .clear .ensures))
 
--- src/lib.rt:47:1
 returns-2 : tie.Need-returns-2
 returns-2 c = (ap (λ (x : ℕ). record { answer = Refused (c .before .before .before .args .question) x; starts = startsOf (replicate 12 0) }) (c .before .offset-at .ensures), left-alone (c .before .before .before .args .index .now) _ (c .if1 .left))
 

@@ -4,58 +4,43 @@ use mathlib.Core.Path.{ap}
 use borrow.Author.Needs.{needs}
 use Rattle.manifest.proofs.starts_of.Statement.{statement}
 use Rattle.manifest.proofs.starts_of.Tie as tie
-use Rattle.manifest.proofs.starts_of.Reads as reads
-use Rattle.manifest.proofs.starts_of.Lts as lts
 
--- src/lib.rt:41:13
 shared-slice-read-t3 : tie.Need-shared-slice-read-t3
 shared-slice-read-t3 c = search needs
 
--- src/lib.rt:41:23
 shared-slice-read-t5 : tie.Need-shared-slice-read-t5
 shared-slice-read-t5 c = search needs
 
--- src/lib.rt:41:33
 shared-slice-read-t7 : tie.Need-shared-slice-read-t7
 shared-slice-read-t7 c = search needs
 
--- src/lib.rt:41:43
 shared-slice-read-t9 : tie.Need-shared-slice-read-t9
 shared-slice-read-t9 c = search needs
 
--- src/lib.rt:41:53
 shared-slice-read-t11 : tie.Need-shared-slice-read-t11
 shared-slice-read-t11 c = search needs
 
--- src/lib.rt:41:63
 shared-slice-read-t13 : tie.Need-shared-slice-read-t13
 shared-slice-read-t13 c = search needs
 
--- src/lib.rt:41:73
 shared-slice-read-t15 : tie.Need-shared-slice-read-t15
 shared-slice-read-t15 c = search needs
 
--- src/lib.rt:41:83
 shared-slice-read-t17 : tie.Need-shared-slice-read-t17
 shared-slice-read-t17 c = search needs
 
--- src/lib.rt:41:93
 shared-slice-read-t19 : tie.Need-shared-slice-read-t19
 shared-slice-read-t19 c = search needs
 
--- src/lib.rt:41:103
 shared-slice-read-t21 : tie.Need-shared-slice-read-t21
 shared-slice-read-t21 c = search needs
 
--- src/lib.rt:41:113
 shared-slice-read-t23 : tie.Need-shared-slice-read-t23
 shared-slice-read-t23 c = search needs
 
--- src/lib.rt:41:124
 shared-slice-read-t25 : tie.Need-shared-slice-read-t25
 shared-slice-read-t25 c = search needs
 
--- src/lib.rt:35:1
 returns : tie.Need-returns
 returns c = ap startsOf (firsts-take 12 (c .before .before .before .before .before .before .before .before .before .before .before .before .args .index .now) (c .before .before .before .before .before .before .before .before .before .before .before .before .pre))
 

@@ -1,0 +1,96 @@
+-- Refusals of the Rust that cannot arise: document 01, "`unknown external input`, `connector occurs in multiple block port lists` .. can't arise
+-- after these questions; that is proved"; and its test that a manifest is written in the one way that there is.
+use Prim.Native.Nat.{ℕ, zero, suc}
+use mathlib.Core.Path.{_≡_, refl, sym, ap, _∙_, subst}
+use mathlib.Core.Bool.{Bool, true, false, false≢true}
+use mathlib.Core.List.{List, [], _∷_}
+use lib.ListN.{length, getD}
+use lib.Dec.{leb, eqb}
+use Rattle.text.proofs.Blocks.{both}
+use Rattle.state.specs.Bytes.{AreBytes}
+use Rattle.state.specs.Outcome.{got}
+use Rattle.state.proofs.Outcome.{Yields, this, nothing, yielded, yields-ask, yields-bind, yields-so}
+use Rattle.state_wire.specs.Fields.{maxSnapshotBytes}
+use Rattle.order.proofs.Laws.{lex-refl}
+use Rattle.format.specs.Lists.{isLess, before, allDifferent}
+use Rattle.format.specs.Format.{late, wire, El, encode}
+use Rattle.format.specs.Admits.{All, Holds}
+use Rattle.format.specs.Keys.{blockKey, direction}
+use Rattle.format.specs.Manifest.{counted, connectorKeys, blockRest, enums, blocks, manifest}
+use Rattle.format.specs.Fields.{Entry, enumsOf, blocksOf, connectorsOf, externalInputsOf, externalInput, blockKeyOf, inputs, outputs}
+use Rattle.format.specs.Pairwise.{Ascending, Different}
+use Rattle.format.specs.Reading.{indexWords, readManifest, readSections}
+use Rattle.format.proofs.Pairwise.{ascending-iff, different-iff}
+use Rattle.format.proofs.Canonical.{canonical}
+use Rattle.format.proofs.Values.{self}
+use Rattle.questions.specs.Sets.{all, gather, first}
+use Rattle.questions.specs.Declarations.{blockNames, connectorNames, blockAnswer, blockPorts, declarations}
+use Rattle.questions.specs.References.{isKnown, isDirected, externalsHold, boundaries}
+use Rattle.questions.specs.Order.{firstFailing}
+use Rattle.questions.specs.Answers.{judged, judge}
+use Rattle.questions.proofs.Chains.{first-none, unless-none, each-none}
+use Rattle.questions.proofs.Ports.{AllAdmitted, Passes, blocks-differ}
+
+-- ---- 'unknown external input'
+all-weaker : {A : Type 0} (t u : A → Bool) → ((x : A) → t x ≡ true → u x ≡ true) → (xs : List A) → all t xs ≡ true → all u xs ≡ true
+unfolding all
+all-weaker t u h [] e = refl
+all-weaker t u h (x ∷ xs) e = let b = both (t x) (all t xs) e in rw (h x (b .0), all-weaker t u h xs (b .1))
+
+-- after question 25 each external input is a connector's key
+pub external-inputs-known : (m : El manifest) → first (boundaries m) ≡ 0
+    → all (λ x. isKnown (connectorNames (connectorsOf m)) (externalInput x)) (externalInputsOf m) ≡ true
+unfolding boundaries externalsHold isDirected
+external-inputs-known m e =
+    let b = both _ _ (unless-none 24 _ (first-none _ _ e .0)) in
+    all-weaker _ _ (λ x h. both (eqb (direction (externalInput x)) 0) _ h .1) (externalInputsOf m) (b .0)
+
+-- ---- 'connector occurs in multiple block port lists': `one-place` of Ports says it of any two ports that pass 14; here of all of them
+passes : (es : List (Entry enums)) (b : Entry blocks) → Holds maxSnapshotBytes blockRest (b .1) → blockAnswer es b ≡ 0 → Passes b
+unfolding Holds blockRest connectorKeys AllAdmitted blockAnswer inputs outputs
+passes es b h e =
+    let a = both _ _ (unless-none 13 _ (first-none _ _ (first-none _ _ (first-none _ _ e .1) .1) .0)) in
+    record { ins = h .1 .1 .0 .1; outs = h .1 .1 .1 .1; ins-hold = a .0; outs-hold = a .1 }
+
+all-pass : (es : List (Entry enums)) (bs : List (Entry blocks)) → All (λ b. Holds maxSnapshotBytes blockKey (b .0) × Holds maxSnapshotBytes blockRest (b .1)) bs
+    → All (λ b. blockAnswer es b ≡ 0) bs → All Passes bs
+all-pass es [] h e = tt
+all-pass es (b ∷ bs) h e = (passes es b (h .0 .1) (e .0), all-pass es bs (h .1) (e .1))
+
+ascending-different : (ks : List (List ℕ)) → Ascending ks → Different ks
+ascending-different ks a i j l k q = false≢true (sym (ap isLess (lex-refl (getD ks j []))) ∙ subst (λ x. before x (getD ks j []) ≡ true) q (a i j l k))
+
+-- question 9 leaves no block key twice
+blocks-named-once : (bs : List (Entry blocks)) → Holds maxSnapshotBytes (counted blocks) bs → allDifferent (blockNames bs) ≡ true
+unfolding Holds blockNames blockKeyOf
+blocks-named-once bs h =
+    let names : List (List ℕ) = blockNames bs in
+    different-iff names .1 (ascending-different names (ascending-iff (late wire) tt names .0 (h .2)))
+
+-- after questions 9 and 14 no port stands twice in the blocks' lists
+pub ports-once : (m : El manifest) → Holds maxSnapshotBytes manifest m → first (declarations m) ≡ 0 → allDifferent (gather blockPorts (blocksOf m)) ≡ true
+unfolding Holds manifest declarations blocksOf
+ports-once m h e =
+    let bs : List (Entry blocks) = blocksOf m in
+    let b = h .1 .1 .0 in
+    let a = each-none (blockAnswer (enumsOf m)) bs (first-none _ _ (first-none _ _ e .1) .0) in
+    blocks-differ bs (all-pass (enumsOf m) bs (b .1) a) (blocks-named-once bs b)
+
+-- ---- 'manifest has a non-canonical encoding'
+module _ (bound : List (List ℕ)) (revision : ℕ) (s : List ℕ) (w : ℕ) (bytes : AreBytes s) where
+  yields-judged : (q : ℕ) (m : El manifest) (n : ℕ) {P : El manifest → ℕ → Type 0} → P m n → Yields P (judged q m n)
+  yields-judged zero m n p = this p
+  yields-judged (suc q) m n p = nothing
+
+  yields-canonical : Yields (λ m n. (n ≡ length s) × (encode manifest m ≡ s) × Holds maxSnapshotBytes manifest m) (judge bound revision s w)
+  unfolding judge readManifest
+  yields-canonical =
+      yields-bind (
+      yields-ask (leb (length s) maxSnapshotBytes) 1 0 λ _.
+      yields-ask (leb (indexWords (length s)) w) 2 0 λ _.
+      yields-so (self (readSections maxSnapshotBytes s)) λ m n e. canonical maxSnapshotBytes s bytes e) λ m n p.
+      yields-judged (firstFailing bound revision m) m n p
+
+  -- an accepted manifest is its bytes as they would be written again
+  pub written-again : {m : El manifest} {n : ℕ} → judge bound revision s w ≡ got m n → encode manifest m ≡ s
+  written-again e = yielded (subst (Yields _) e yields-canonical) .1

@@ -1,0 +1,2 @@
+-- `InOrder`: groups of questions asked one after the other.
+pub mod InOrder

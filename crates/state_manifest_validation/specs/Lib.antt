@@ -1,0 +1,1 @@
+-- Nothing of its own: the definitions are those of questions.
