@@ -57,13 +57,13 @@ module _ (s : List ℕ) (w : Well limit manifest s 0) where
   words-long = length-append (manifestStarts limit s) (manifestEntries limit s) ∙ rw entries-long
 
 -- ---- a manifest that was read
-record Passed (s : List ℕ) (w : ℕ) (v : El manifest) (n : ℕ) : Type 0 where
-  short : length s ≤ maxSnapshotBytes
-  words : indexWords (length s) ≤ w
-  reads : read limit manifest s 0 ≡ got v n
-  whole : n ≡ length s
+pub record Passed (s : List ℕ) (w : ℕ) (v : El manifest) (n : ℕ) : Type 0 where
+  pub short : length s ≤ maxSnapshotBytes
+  pub words : indexWords (length s) ≤ w
+  pub reads : read limit manifest s 0 ≡ got v n
+  pub whole : n ≡ length s
 
-yields-passed : (s : List ℕ) (w : ℕ) → Yields (Passed s w) (readManifest limit s w)
+pub yields-passed : (s : List ℕ) (w : ℕ) → Yields (Passed s w) (readManifest limit s w)
 unfolding readManifest readSections
 yields-passed s w =
     yields-ask (leb (length s) maxSnapshotBytes) _ _ λ a.

@@ -1,0 +1,7 @@
+-- `Walk`: the largest end, slot by slot. `Sections`: what stands where the starts say. `Counting`: the units, counted there. `Ends`: no slot of
+-- an accepted manifest ends above 2^64 − 1. `Acceptance`: what acceptance leaves, and what the units come to.
+pub mod Walk
+pub mod Sections
+pub mod Counting
+pub mod Ends
+pub mod Acceptance

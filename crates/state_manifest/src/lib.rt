@@ -1,0 +1,80 @@
+// The word total and the units of a manifest.
+use manifest::decode_manifest;
+use state::Answer;
+use state::Units;
+use state_index::ahead;
+use state_index::clear;
+use state_index::keys::block_key_end;
+use state_index::keys::count_at;
+use state_index::keys::number_at;
+use state_index::word_at;
+ghost use mathlib.Core.Path.{_≡_};
+ghost use mathlib.Core.Bool.{true, cond};
+ghost use Prim.Native.Nat.{_-_, _^_, max};
+ghost use lib.Dec.{leb};
+ghost use lib.ListN.{length, replicate};
+ghost use Rattle.state.specs.Outcome.{got};
+ghost use Rattle.format.specs.Manifest.{counted, stateSlots};
+ghost use Rattle.format.specs.Values.{valueAt};
+ghost use Rattle.questions.specs.Sets.{all};
+ghost use Rattle.questions.specs.Slots.{endFits};
+ghost use Rattle.questions.specs.Portability.{targetBoundClasses};
+ghost use Rattle.questions.specs.Answers.{judge};
+ghost use Rattle.questions.specs.Units.{wordTotal, unitsOf, unitsAnswer, unitsIndex};
+ghost use Rattle.state_layout.specs.Tables.{manifestOf};
+ghost use Rattle.state_manifest.specs.Accepted.{Accepted};
+
+fn larger(a: u64, b: u64) -> u64
+    ensures { λ r. ⌜ r ≡ max a b ⌝ }
+{
+    if a < b {
+        return b;
+    }
+    a
+}
+
+// The word total of the slots whose count stands at a position: the largest end.
+fn state_words(s: &[u8], at: usize) -> u64
+    requires { ⌜ all endFits (valueAt (counted stateSlots) (now s) at) ≡ true ⌝ }
+    ensures { λ r. ⌜ r ≡ wordTotal (valueAt (counted stateSlots) (now (s .entry)) at) ⌝ }
+{
+    let mut left = count_at(s, at);
+    let mut p = ahead(s, at, 4);
+    let mut most = 0;
+    while 0 < left {
+        let offset = block_key_end(s, p);
+        let length = ahead(s, offset, 8);
+        most = larger(most, number_at(s, offset) + number_at(s, length));
+        p = ahead(s, length, 8);
+        left -= 1;
+    }
+    most
+}
+
+// The units of an accepted manifest, whose starts are the first words of the index. Where they are above 2^64 − 1 the index is cleared.
+fn count_units(s: &[u8], index: &mut [u32]) -> Units
+    requires { ⌜ Accepted (now s) (now index) ⌝ }
+    ensures { λ r. ⌜ r ≡ unitsAnswer 0 (got (manifestOf (now (s .entry))) 0) ⌝ }
+    ensures { λ _. ⌜ now (index .exit) ≡ cond (leb (unitsOf (manifestOf (now (s .entry)))) (2 ^ 64 - 1)) (now (index .entry)) (replicate (length (now (index .entry))) 0) ⌝ }
+{
+    let words = state_words(s, word_at(index, 8));
+    let connectors = count_at(s, word_at(index, 3)) as u64;
+    if (18446744073709551615 - connectors) / 4 < words {
+        clear(index, 0, index.len());
+        return Units::Refused(39, 0);
+    }
+    Units::Of(words, 4 * words + connectors)
+}
+
+// The word total and the units of a manifest, or its refusal. The index is left as `decode_manifest` leaves it, but cleared after 39.
+pub fn units(bytes: &[u8], base: u64, revision: u32, index: &mut [u32]) -> Units
+    ensures { λ r. ⌜ r ≡ unitsAnswer base (judge targetBoundClasses revision (now (bytes .entry)) (length (now (index .entry)))) ⌝ }
+    ensures { λ _. ⌜ now (index .exit) ≡ unitsIndex (now (bytes .entry)) (now (index .entry)) (judge targetBoundClasses revision (now (bytes .entry)) (length (now (index .entry)))) ⌝ }
+{
+    let d = decode_manifest(bytes, base, revision, index);
+    let answer = d.answer;
+    match answer {
+        Answer::Refused(question, offset) => Units::Refused(question, offset),
+        Answer::Accepted => count_units(bytes, index),
+    }
+}
