@@ -63,9 +63,9 @@ def enum_class(path, members):
     return string(path), counted(4, [(string(m), []) for m in members])
 
 
-def block(key, name, state=(0, 0), params=(), inputs=(), outputs=()):
-    """state is revision and length; params are (name, fields of its value)."""
-    head = string(name) + tag(1 if any(state) else 0) + number(state[0]) + number(state[1], 8)
+def block(key, name, state=(0, 0), params=(), inputs=(), outputs=(), kind=None):
+    """state is revision and length, from which the kind follows if it is not given; params are (name, its value)."""
+    head = string(name) + tag(int(any(state)) if kind is None else kind) + number(state[0]) + number(state[1], 8)
     lists = counted(6, [(string(n), v) for n, v in params])
     return key, head + lists + counted(10, [(k, []) for k in inputs]) + counted(10, [(k, []) for k in outputs])
 
@@ -232,3 +232,19 @@ def joined(dice, text, classes, kinds, rows, ins, outs, bound):
         s11=[(string(n), dice.choice(outs)) for n in distinct(text, len(outs))],
         s12=[definition(p, kind[p], limit(kind[p]), limit(kind[p])) for p in defined],
     )
+
+
+# -- Calls ------------------------------------------------------------------------------------------------------
+
+HIGHEST = 2**64 - 1  # where offsets stop
+
+
+def needed(b):
+    """Question 2: the least words of the index."""
+    return len(b) // 2 + 16
+
+
+def some_base(dice, n):
+    """Mostly 0; also such that the offsets of n bytes stop at the highest one, or just do not."""
+    near = (HIGHEST, HIGHEST - n, min(HIGHEST - n + 1, HIGHEST), HIGHEST - dice.randrange(n + 1))
+    return dice.choice((0,) * 12 + (1, dice.getrandbits(32), dice.getrandbits(64)) + near)

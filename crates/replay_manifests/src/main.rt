@@ -1,14 +1,16 @@
 // Replays manifests: a line of standard input each, and its answer on a line of standard output.
 // tools/manifest_vectors.py writes both. HEX is bytes, two digits each, and `-` where there are none.
 //
-//   r WORDS HEX    questions 1 to 10 of a manifest, with an index of so many words:  next N, or refused QUESTION POSITION
-//   a WORDS HEX    the same, and behind `next N` the twelve section starts, from the index
+//   BASE REVISION WORDS HEX    a manifest, with an index of so many words:  accepted S1 .. S12, or refused QUESTION OFFSET
 //
-// The index is filled before each call. Where refusal 1 or 2 has changed it, the answer ends with `touched`.
+// The index is filled before each call. The answer ends with `index` where the call has left another one than it must.
 use replay_lines::after_word;
 use replay_lines::bytes;
+use replay_lines::number;
 use replay_lines::position;
-use state::Step;
+use state::Answer;
+use state::Decoded;
+use state::Starts;
 use state_wire::part;
 
 // The most lines, bytes of a line and of one HEX, and words of an index.
@@ -29,10 +31,10 @@ fn fill(index: &mut [u32]) {
     }
 }
 
-// Whether each word is still as `fill` left it.
-fn filled(index: &[u32]) -> bool {
-    for i in 0..index.len() {
-        if index[i] != FILL {
+// Whether each word from a place on is this one.
+fn all_from(index: &[u32], first: usize, word: u32) -> bool {
+    for i in first..index.len() {
+        if index[i] != word {
             return false;
         }
     }
@@ -43,58 +45,75 @@ fn word(index: &[u32], i: usize) -> u32 {
     if i < index.len() { index[i] } else { 0 }
 }
 
-// The first twelve words of the index.
-fn print_starts(index: &[u32]) {
+// Whether the first twelve words are the starts.
+fn are_starts(starts: Starts, index: &[u32]) -> bool {
     for i in 0..12 {
-        io::write_all(1, b" ");
-        io::print_decimal(1, word(index, i) as u64);
+        if starts.at[i] != word(index, i) {
+            return false;
+        }
+    }
+    true
+}
+
+// Whether the index is what the answer says that it is.
+fn is_left(answer: Answer, starts: Starts, index: &[u32]) -> bool {
+    match answer {
+        Answer::Accepted => are_starts(starts, index) && all_from(index, 12, 0),
+        Answer::Refused(question, _) => all_from(index, 0, if question == 2 { FILL } else { 0 }),
     }
 }
 
-fn print_refused(question: u8, position: usize, index: &[u32]) {
+fn print_accepted(starts: Starts) {
+    io::write_all(1, b"accepted");
+    for i in 0..12 {
+        io::write_all(1, b" ");
+        io::print_decimal(1, starts.at[i] as u64);
+    }
+}
+
+fn print_refused(question: u8, offset: u64) {
     io::write_all(1, b"refused ");
     io::print_decimal(1, question as u64);
     io::write_all(1, b" ");
-    io::print_decimal(1, position as u64);
-    if question <= 2 && !filled(index) {
-        io::write_all(1, b" touched");
-    }
+    io::print_decimal(1, offset);
 }
 
-fn print_next(next: usize, starts: bool, index: &[u32]) {
-    io::write_all(1, b"next ");
-    io::print_decimal(1, next as u64);
-    if starts {
-        print_starts(index);
+fn print_decoded(decoded: Decoded, index: &[u32]) {
+    let answer = decoded.answer;
+    let starts = decoded.starts;
+    match answer {
+        Answer::Accepted => print_accepted(starts),
+        Answer::Refused(question, offset) => print_refused(question, offset),
     }
-}
-
-fn print_step(step: Step, starts: bool, index: &[u32]) {
-    match step {
-        Step::Next(next) => print_next(next, starts, index),
-        Step::Refused(question, position) => print_refused(question, position, index),
+    if !is_left(answer, starts, index) {
+        io::write_all(1, b" index");
     }
     io::write_all(1, b"\n");
 }
 
-fn read(manifest: &[u8], index: &mut [u32], starts: bool) {
+fn decode(s: &[u8], base: u64, revision: u32, index: &mut [u32]) {
     fill(index);
-    let step = state_manifest_codec::read_manifest(manifest, index);
-    print_step(step, starts, index);
+    let decoded = manifest::decode_manifest(s, base, revision, index);
+    print_decoded(decoded, index);
 }
 
-fn first_byte(s: &[u8]) -> u8 {
-    if 0 < s.len() { s[0] } else { 0 }
+fn small_number(s: &[u8], at: usize) -> u32 {
+    (number(s, at) % 4294967296) as u32
 }
 
 // The answer to a line. There is none where it asks for more words than there are.
 fn answer(s: &[u8], room: &mut [u8], index: &mut [u32]) {
-    let first = after_word(s, 0);
-    let words = position(s, first);
-    let n = bytes(s, after_word(s, first), room);
-    let starts = first_byte(s) == b'a';
+    let revision = after_word(s, 0);
+    let index_words = after_word(s, revision);
+    let words = position(s, index_words);
+    let n = bytes(s, after_word(s, index_words), room);
     if words <= index.len() {
-        read(part(room, 0, n), &mut index[..words], starts);
+        decode(
+            part(room, 0, n),
+            number(s, 0),
+            small_number(s, revision),
+            &mut index[..words],
+        );
     }
 }
 

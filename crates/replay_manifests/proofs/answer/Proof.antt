@@ -1,37 +1,41 @@
 use mathlib.Core.Path.{sym}
 use borrow.Table.Elements.{length-take-le}
 use borrow.Author.Needs.{needs}
-use lib.ListN.{length}
-use borrow.Author.Needs.{needs}
 use Rattle.replay_manifests.proofs.answer.Statement.{statement}
 use Rattle.replay_manifests.proofs.answer.Tie as tie
 
 after-word-requires : tie.Need-after-word-requires
 after-word-requires c κs = search needs
 
+after-word-requires-2 : tie.Need-after-word-requires-2
+after-word-requires-2 c κs = search needs
+
 position-requires : tie.Need-position-requires
 position-requires c κs = search needs
 
-after-word-requires-2 : tie.Need-after-word-requires-2
-after-word-requires-2 c κs = search needs
+after-word-requires-3 : tie.Need-after-word-requires-3
+after-word-requires-3 c κs = search needs
 
 bytes-requires : tie.Need-bytes-requires
 bytes-requires c κs = search needs
 
-first-byte-requires : tie.Need-first-byte-requires
-first-byte-requires c κs = search needs
-
 part-requires : tie.Need-part-requires
 part-requires c κs = search needs
 
-slice-relend-prefix-read : tie.Need-slice-relend-prefix-read
-slice-relend-prefix-read c = search needs
+number-requires : tie.Need-number-requires
+number-requires c κs = search needs
 
-slice-aggregate-read : tie.Need-slice-aggregate-read
-slice-aggregate-read c = sym (length-take-le _ _ (search needs))
+small-number-requires : tie.Need-small-number-requires
+small-number-requires c κs = search needs
 
-read-requires : tie.Need-read-requires
-read-requires c κs = search needs
+slice-relend-prefix-decode : tie.Need-slice-relend-prefix-decode
+slice-relend-prefix-decode c = search needs
+
+slice-aggregate-decode : tie.Need-slice-aggregate-decode
+slice-aggregate-decode c = sym (length-take-le _ _ (search needs))
+
+decode-requires : tie.Need-decode-requires
+decode-requires c κs = search needs
 
 same-length : tie.Need-same-length
 same-length c = search needs
@@ -53,14 +57,16 @@ answer-spec =
     tie.close
     (tie.spec
     after-word-requires
-    position-requires
     after-word-requires-2
+    position-requires
+    after-word-requires-3
     bytes-requires
-    first-byte-requires
     part-requires
-    slice-relend-prefix-read
-    slice-aggregate-read
-    read-requires
+    number-requires
+    small-number-requires
+    slice-relend-prefix-decode
+    slice-aggregate-decode
+    decode-requires
     same-length
     same-length-2
     returns

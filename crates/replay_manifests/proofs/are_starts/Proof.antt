@@ -1,14 +1,13 @@
 use borrow.Author.Needs.{needs}
-use lib.ListN.{length}
 use Prim.Native.Nat.{_-_}
-use Rattle.replay_manifests.proofs.filled.Statement.{statement}
-use Rattle.replay_manifests.proofs.filled.Tie as tie
+use Rattle.replay_manifests.proofs.are_starts.Statement.{statement}
+use Rattle.replay_manifests.proofs.are_starts.Tie as tie
 
 abbrev Inv-loop : tie.InvT-loop
-Inv-loop index i₀ i-end i = Unit
+Inv-loop index starts i₀ i = Unit
 
 abbrev μ-loop : tie.MeasureT-loop
-μ-loop index i₀ i-end i = length index - i
+μ-loop index starts i₀ i = 12 - i
 
 loop-holds : tie.Need-loop-holds Inv-loop μ-loop
 loop-holds c = search needs
@@ -16,8 +15,11 @@ loop-holds c = search needs
 mul-if1 : tie.Need-mul-if1 Inv-loop μ-loop
 mul-if1 c = search needs
 
-shared-slice-read-if1 : tie.Need-shared-slice-read-if1 Inv-loop μ-loop
-shared-slice-read-if1 c = search needs
+element-copy-out-if1 : tie.Need-element-copy-out-if1 Inv-loop μ-loop
+element-copy-out-if1 c = search needs
+
+word-requires : tie.Need-word-requires Inv-loop μ-loop
+word-requires c κs = search needs
 
 returns : tie.Need-returns Inv-loop μ-loop
 returns c = search needs
@@ -34,15 +36,16 @@ loop-again c = search needs
 returns-2 : tie.Need-returns-2 Inv-loop μ-loop
 returns-2 c = search needs
 
-pub filled-spec : {M : Type 1} → statement M
-filled-spec =
+pub are-starts-spec : {M : Type 1} → statement M
+are-starts-spec =
     tie.close
     (tie.spec
     Inv-loop
     μ-loop
     loop-holds
     mul-if1
-    shared-slice-read-if1
+    element-copy-out-if1
+    word-requires
     returns
     add-i
     loop-less

@@ -1,16 +1,13 @@
 use borrow.Author.Needs.{needs}
 use Prim.Native.Nat.{_-_}
-use Rattle.replay_manifests.proofs.print_starts.Statement.{statement}
-use Rattle.replay_manifests.proofs.print_starts.Tie as tie
+use Rattle.replay_manifests.proofs.print_accepted.Statement.{statement}
+use Rattle.replay_manifests.proofs.print_accepted.Tie as tie
 
 abbrev Inv-loop : tie.InvT-loop
-Inv-loop index i₀ t3 i = Unit
+Inv-loop starts i₀ t5 i = Unit
 
 abbrev μ-loop : tie.MeasureT-loop
-μ-loop index i₀ t3 i = 12 - i
-
-loop-holds : tie.Need-loop-holds Inv-loop μ-loop
-loop-holds c = search needs
+μ-loop starts i₀ t5 i = 12 - i
 
 slice-aggregate-write-all : tie.Need-slice-aggregate-write-all Inv-loop μ-loop
 slice-aggregate-write-all c = search needs
@@ -18,8 +15,20 @@ slice-aggregate-write-all c = search needs
 write-all-requires : tie.Need-write-all-requires Inv-loop μ-loop
 write-all-requires c κs = search needs
 
-word-requires : tie.Need-word-requires Inv-loop μ-loop
-word-requires c κs = search needs
+loop-holds : tie.Need-loop-holds Inv-loop μ-loop
+loop-holds c = search needs
+
+slice-aggregate-write-all-2 : tie.Need-slice-aggregate-write-all-2 Inv-loop μ-loop
+slice-aggregate-write-all-2 c = search needs
+
+write-all-requires-2 : tie.Need-write-all-requires-2 Inv-loop μ-loop
+write-all-requires-2 c κs = search needs
+
+mul-print-decimal : tie.Need-mul-print-decimal Inv-loop μ-loop
+mul-print-decimal c = search needs
+
+element-copy-out-print-decimal : tie.Need-element-copy-out-print-decimal Inv-loop μ-loop
+element-copy-out-print-decimal c = search needs
 
 cast-print-decimal : tie.Need-cast-print-decimal Inv-loop μ-loop
 cast-print-decimal c = search needs
@@ -39,16 +48,19 @@ loop-again c = search needs
 returns : tie.Need-returns Inv-loop μ-loop
 returns c = search needs
 
-pub print-starts-spec : {M : Type 1} → statement M
-print-starts-spec =
+pub print-accepted-spec : {M : Type 1} → statement M
+print-accepted-spec =
     tie.close
     (tie.spec
     Inv-loop
     μ-loop
-    loop-holds
     slice-aggregate-write-all
     write-all-requires
-    word-requires
+    loop-holds
+    slice-aggregate-write-all-2
+    write-all-requires-2
+    mul-print-decimal
+    element-copy-out-print-decimal
     cast-print-decimal
     print-decimal-requires
     add-i
