@@ -6,7 +6,7 @@
 ORACLE is the program built from the published Rust; its record 'm' (base, revision, a manifest) runs decode_manifest
 and gives `refused QUESTION OFFSET | ..` or `accepted WORDS CONNECTORS s1 .. s12 ..`, the section starts. Its answers
 are taken as they are. Questions 1 and 2 are not the Rust's: the answers of lines with too few index words are from
-document 01's rule, and question 1, which needs more than 64 MiB, is tested by tools/bench/reading.rs.
+document 01's rule, and question 1, which needs more than 64 MiB, is tested by tools/bench/decoding.rs.
 crates/replay_manifests/src/main.rt has the meaning of the lines. A fixed seed: a second run writes the same files.
 
 The inputs are those of tools/manifest_cases.py, for questions 3 to 10, and of tools/question_cases.py, for 11 to 32.

@@ -1,11 +1,13 @@
 -- Document 01, "Entries checked", and the manifests of Cases.antt: a table, with one theorem over all rows. The answers are those of the Rust.
-use Prim.Native.Nat.{_-_, _^_}
+use Prim.Native.Nat.{ℕ, _-_, _^_}
 use mathlib.Core.Path.{_≡_, refl}
 use mathlib.Core.List.{List, [], _∷_, _++_, map}
-use lib.ListN.{replicate}
+use lib.ListN.{length, replicate}
 use Rattle.state.specs.Bytes.{numberOf, bytesOf}
 use Rattle.state.specs.declared.Answer.{Answer}
 use Rattle.state.specs.declared.Answer.the-variants.{Accepted, Refused}
+use Rattle.state.specs.declared.Units.{Units}
+use Rattle.state.specs.declared.Units.the-variants as units
 use Rattle.text.specs.Valid.{validUpTo}
 use Rattle.order.specs.Lex.{lexCompare}
 use Rattle.state_wire.specs.Fields.{readSpan, readNumber, readTag, readCount, boundedCount, readText}
@@ -15,7 +17,7 @@ use Rattle.format.specs.Admits.{All}
 use Rattle.format.specs.Keys.{blockKey, connectorKey, owner, direction, portIndex}
 use Rattle.format.specs.Manifest.{valueType, value, members, params, connectorKeys, blockHead, blockRest, connectorRest, slotRest, inputRest, portability, manifest}
 use Rattle.format.specs.Fields.{portabilityOf, enumsOf, blocksOf, connectorsOf, connectionsOf, scheduleOf, connectorOrderOf, driversOf, slotsOf, externalInputsOf, boundaryOutputsOf, inputDefinitionsOf, portabilityTag, target, enumPath, membersOf, blockKeyOf, classPath, kind, stateRevision, stateLen, paramsOf, inputs, outputs, connectorKeyOf, path, valueTypeOf, source, sink, scheduled, ordered, driven, driver, slotKey, slotOffset, slotLength, externalInput, outputName, outputSource, inputPath, inputType, minimum, maximum, typeTag, valueTag, typeClass, valueClass, ordinal, given}
-use Rattle.format.specs.Reading.{readSections, readManifest}
+use Rattle.format.specs.Reading.{indexWords, readSections, readManifest}
 use Rattle.questions.specs.Sets.{all, any, keep, gather, allIn, sameSet, eachOnce, countDifferent, _unless_, first}
 use Rattle.questions.specs.Declarations.{blockNames, connectorNames, hasMember, isStateful, kindHolds, inRange, enumHolds, paramsHold, portHolds, portsHold, blockAnswer, portNames, blockPorts, portsAre, paramClasses, classesAre, declarations}
 use Rattle.questions.specs.References.{isKnown, isDirected, joins, scheduleHolds, orderHolds, drives, driversHold, references, externalNames, externalsHold, outputsHold, boundaries}
@@ -24,6 +26,7 @@ use Rattle.questions.specs.Inputs.{externals, sameType, hasType, oneType
 use Rattle.questions.specs.Portability.{ascii, targetBoundClasses, someBound, tagHolds, targetHolds, portabilityHolds}
 use Rattle.questions.specs.Order.{answers, firstFailing}
 use Rattle.questions.specs.Answers.{judge, decodeManifest}
+use Rattle.questions.specs.Units.{wordTotal, unitsOf, unitsAnswer}
 use Rattle.questions.proofs.Cases.{zeros, digits, pairs, hex, Row, rowAt, row, accepted, acceptedRows, declarationRows, referenceRows, slotRows, boundaryRows, inputRows, portabilityRows}
 
 -- ---- "Entries checked"
@@ -63,11 +66,30 @@ all-so : {A B : Type 0} (f g : A → B) (xs : List A) → map f xs ≡ map g xs 
 all-so f g [] e = tt
 all-so f g (x ∷ xs) e = (cc e, all-so f g xs (cc e))
 
+-- ---- words and units: "P .. Accepted, 1 word, 4 units"; 39 above 2^64 − 1
+record Figure : Type 0 where
+  bytes : List ℕ
+  figure : Units
+
+abbrev figures : List Figure
+figures =
+    record { bytes = zeros 45; figure = units.Of 0 0 }
+    ∷ record { bytes = hex "00 . 0100000000..01010000000100000000000000... . . 0100000000. . . 0100000000...0100000000000000 . . ."; figure = units.Of 1 4 }
+    -- P with 2^62 − 1 words, with 2^62 words, and cut short
+    ∷ record { bytes = hex "00 . 0100000000..0101000000ffffffffffffff3f... . . 0100000000. . . 0100000000...ffffffffffffff3f . . ."; figure = units.Of (2 ^ 62 - 1) (2 ^ 64 - 4) }
+    ∷ record { bytes = hex "00 . 0100000000..01010000000000000000000040... . . 0100000000. . . 0100000000...0000000000000040 . . ."; figure = units.Refused 39 0 }
+    ∷ record { bytes = zeros 44; figure = units.Refused 3 41 }
+    ∷ []
+
+-- what a call for units answers
+abbrev figureOf : Figure → Units
+figureOf f = unitsAnswer 0 (judge targetBoundClasses 2 (f .bytes) (indexWords (length (f .bytes))))
+
 -- what a call answers
 abbrev answerTo : Row → Answer
 answerTo r = decodeManifest targetBoundClasses (r .bytes) (r .base) (r .revision) (replicate (r .index) 0) .answer
 
 -- each row is answered as it says
-rows-hold : All (λ (r : Row). answerTo r ≡ r .answer) rows
-unfolding hex pairs digits decodeManifest judge firstFailing answers declarations references slots boundaries inputDefinitionsHold portabilityHolds all any keep gather allIn sameSet eachOnce countDifferent _unless_ first blockNames connectorNames hasMember isStateful kindHolds inRange enumHolds paramsHold portHolds portsHold blockAnswer portNames blockPorts portsAre paramClasses classesAre isKnown isDirected joins scheduleHolds orderHolds drives driversHold externalNames externalsHold outputsHold slotName slotKeysAre lengthIs endFits slotAnswer words insert byOffset joinFrom externals sameType hasType oneType countIs isDefined boundHolds boundAnswer definitionAnswer inputAnswers ascii targetBoundClasses someBound tagHolds targetHolds portabilityOf enumsOf blocksOf connectorsOf connectionsOf scheduleOf connectorOrderOf driversOf slotsOf externalInputsOf boundaryOutputsOf inputDefinitionsOf portabilityTag target enumPath membersOf blockKeyOf classPath kind stateRevision stateLen paramsOf inputs outputs connectorKeyOf path valueTypeOf source sink scheduled ordered driven driver slotKey slotOffset slotLength externalInput outputName outputSource inputPath inputType minimum maximum typeTag valueTag typeClass valueClass ordinal given owner direction portIndex readManifest readSections read encode readSpan readNumber readTag readCount boundedCount readText validUpTo numberOf bytesOf blockKey connectorKey valueType value members params connectorKeys blockHead blockRest connectorRest slotRest inputRest portability manifest isIn allDifferent lexCompare
-rows-hold = all-so answerTo (λ (r : Row). r .answer) rows refl
+rows-hold : All (λ (r : Row). answerTo r ≡ r .answer) rows × All (λ (f : Figure). figureOf f ≡ f .figure) figures
+unfolding unitsAnswer unitsOf wordTotal hex pairs digits decodeManifest judge firstFailing answers declarations references slots boundaries inputDefinitionsHold portabilityHolds all any keep gather allIn sameSet eachOnce countDifferent _unless_ first blockNames connectorNames hasMember isStateful kindHolds inRange enumHolds paramsHold portHolds portsHold blockAnswer portNames blockPorts portsAre paramClasses classesAre isKnown isDirected joins scheduleHolds orderHolds drives driversHold externalNames externalsHold outputsHold slotName slotKeysAre lengthIs endFits slotAnswer words insert byOffset joinFrom externals sameType hasType oneType countIs isDefined boundHolds boundAnswer definitionAnswer inputAnswers ascii targetBoundClasses someBound tagHolds targetHolds portabilityOf enumsOf blocksOf connectorsOf connectionsOf scheduleOf connectorOrderOf driversOf slotsOf externalInputsOf boundaryOutputsOf inputDefinitionsOf portabilityTag target enumPath membersOf blockKeyOf classPath kind stateRevision stateLen paramsOf inputs outputs connectorKeyOf path valueTypeOf source sink scheduled ordered driven driver slotKey slotOffset slotLength externalInput outputName outputSource inputPath inputType minimum maximum typeTag valueTag typeClass valueClass ordinal given owner direction portIndex readManifest readSections read encode readSpan readNumber readTag readCount boundedCount readText validUpTo numberOf bytesOf blockKey connectorKey valueType value members params connectorKeys blockHead blockRest connectorRest slotRest inputRest portability manifest isIn allDifferent lexCompare
+rows-hold = (all-so answerTo (λ (r : Row). r .answer) rows refl, all-so figureOf (λ (f : Figure). f .figure) figures refl)
