@@ -1,14 +1,15 @@
--- Laws of byte strings in lists.
+-- Laws of byte strings in lists, and of lists.
 use Prim.Native.Nat.{ℕ}
 use mathlib.Core.Path.{_≡_, refl, sym, ap, _∙_}
 use mathlib.Core.Bool.{Bool, true, false, _||_, true≢false}
-use mathlib.Core.List.{List, [], _∷_, _++_}
+use mathlib.Core.List.{List, [], _∷_, _++_, map}
 use lib.ListN.{length}
 use Rattle.order.specs.declared.Order.{Order}
 use Rattle.order.specs.declared.Order.the-variants.{Less, Equal, Greater}
 use Rattle.order.specs.Lex.{lexCompare}
 use Rattle.order.proofs.Laws.{lex-equal-iff}
 use Rattle.format.specs.Lists.{isEqual, same, isIn}
+use Rattle.format.specs.Admits.{All}
 
 -- ---- `same` is equality
 pub same-true : (x y : List ℕ) → same x y ≡ true → x ≡ y
@@ -19,8 +20,11 @@ same-true x y e = lex-equal-iff x y .0 (equal (lexCompare x y) e)
     equal Equal h = refl
     equal Greater h = absurd (true≢false (sym h))
 
+pub same-of : (x y : List ℕ) → x ≡ y → same x y ≡ true
+same-of x y e = ap isEqual (lex-equal-iff x y .1 e)
+
 pub same-refl : (x : List ℕ) → same x x ≡ true
-same-refl x = ap isEqual (lex-equal-iff x x .1 refl)
+same-refl x = same-of x x refl
 
 pub same-apart : (x y : List ℕ) → (x ≡ y → ⊥) → same x y ≡ false
 same-apart x y h = go (same x y) refl
@@ -52,3 +56,8 @@ in-append k (x ∷ xs) ys = go (same k x) (in-append k xs ys)
     go : (b : Bool) → isIn k (xs ++ ys) ≡ (isIn k xs || isIn k ys) → (b || isIn k (xs ++ ys)) ≡ ((b || isIn k xs) || isIn k ys)
     go true e = refl
     go false e = e
+
+-- ---- two functions that answer alike over a list do so on each element
+pub alike-each : {A B : Type 0} (f g : A → B) (xs : List A) → map f xs ≡ map g xs → All (λ x. f x ≡ g x) xs
+alike-each f g [] e = tt
+alike-each f g (x ∷ xs) e = (cc e, alike-each f g xs (cc e))

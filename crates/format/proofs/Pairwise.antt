@@ -12,7 +12,7 @@ use Rattle.text.proofs.Blocks.{both, neither}
 use Rattle.order.specs.declared.Order.{Order}
 use Rattle.order.specs.declared.Order.the-variants.{Less, Equal, Greater}
 use Rattle.order.specs.Lex.{lexCompare}
-use Rattle.order.proofs.Laws.{lex-trans}
+use Rattle.order.proofs.Laws.{lex-refl, lex-trans}
 use Rattle.format.specs.Lists.{isLess, before, same, isIn, allDifferent}
 use Rattle.format.specs.Format.{Rank, Rule, free, distinct, early, late, above}
 use Rattle.format.specs.Admits.{inOrder}
@@ -20,7 +20,7 @@ use Rattle.format.specs.Pairwise.{Ascending, Different}
 use Rattle.format.proofs.Lists.{same-true, same-refl}
 
 -- ---- keys that ascend
-before-trans : (x y z : List ℕ) → before x y ≡ true → before y z ≡ true → before x z ≡ true
+pub before-trans : (x y z : List ℕ) → before x y ≡ true → before y z ≡ true → before x z ≡ true
 before-trans x y z p q = ap isLess (lex-trans x y z (less (lexCompare x y) p) (less (lexCompare y z) q))
   where
     less : (o : Order) → isLess o ≡ true → o ≡ Less
@@ -73,6 +73,13 @@ module _ (u : Rule) (h : Rises u) where
   pub ascending-iff : (ks : List (List ℕ)) → inOrder u ks [] ≡ true ↔ Ascending ks
   ascending-iff [] = (λ e i j p q. absurd (omega arith), λ a. rise-end u h [])
   ascending-iff (k ∷ ks) = (λ e. ascends k ks (sym (rise-next u h k ks []) ∙ e), λ a. rise-next u h k ks [] ∙ in-order k ks a)
+
+pub before-apart : (x y : List ℕ) → before x y ≡ true → x ≡ y → ⊥
+before-apart x y h e = false≢true (sym (ap isLess (lex-refl y)) ∙ subst (λ z. before z y ≡ true) e h)
+
+-- keys that ascend differ
+pub ascending-different : (ks : List (List ℕ)) → Ascending ks → Different ks
+ascending-different ks a i j l k = before-apart (getD ks i []) (getD ks j []) (a i j l k)
 
 -- ---- keys that are all different
 apart : (k : List ℕ) (ks : List (List ℕ)) → isIn k ks ≡ false → (j : ℕ) → j < length ks → k ≡ getD ks j [] → ⊥

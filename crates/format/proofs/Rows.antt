@@ -2,7 +2,7 @@
 -- theorem over all rows. An entry that the document answers by a later question passes these ten.
 use Prim.Native.Nat.{ℕ, _<_}
 use mathlib.Core.Path.{_≡_, refl}
-use mathlib.Core.List.{List, [], _∷_, _++_, map}
+use mathlib.Core.List.{List, [], _∷_, _++_}
 use lib.ListN.{length, replicate}
 use borrow.Author.Tests.{lt-leb}
 use Rattle.state.specs.Bytes.{numberOf}
@@ -18,6 +18,7 @@ use Rattle.format.specs.Admits.{All}
 use Rattle.format.specs.Keys.{blockKey, connectorKey}
 use Rattle.format.specs.Manifest.{valueType, value, members, params, connectorKeys, blockHead, blockRest, connectorRest, slotRest, inputRest, portability, manifest}
 use Rattle.format.specs.Reading.{indexWords, readSections, readManifest}
+use Rattle.format.proofs.Lists.{alike-each}
 
 -- ---- bytes
 abbrev zeros : ℕ → List ℕ
@@ -193,15 +194,10 @@ rows =
     ∷ row (scheduled a a) (Next 57)
     ∷ []
 
--- two functions that answer alike over a list do so on each element
-all-so : {A B : Type 0} (f g : A → B) (xs : List A) → map f xs ≡ map g xs → All (λ x. f x ≡ g x) xs
-all-so f g [] e = tt
-all-so f g (x ∷ xs) e = (cc e, all-so f g xs (cc e))
-
 -- questions 1 to 10 answer each row as it says
 rows-hold : All (λ (r : Row). stepOf (readManifest maxSnapshotBytes (r .bytes) (r .index)) ≡ r .answer) rows
 unfolding readManifest readSections read readSpan readNumber readTag readCount boundedCount readText validUpTo numberOf blockKey connectorKey valueType value members params connectorKeys blockHead blockRest connectorRest slotRest inputRest portability manifest isIn allDifferent lexCompare
-rows-hold = all-so (λ (r : Row). stepOf (readManifest maxSnapshotBytes (r .bytes) (r .index))) (λ (r : Row). r .answer) rows refl
+rows-hold = alike-each (λ (r : Row). stepOf (readManifest maxSnapshotBytes (r .bytes) (r .index))) (λ (r : Row). r .answer) rows refl
 
 -- question 1, before all others, of any bytes that are too many
 too-many : (limit : ℕ) (s : List ℕ) (index : ℕ) → maxSnapshotBytes < length s → readManifest limit s index ≡ refused 1 0

@@ -26,6 +26,17 @@ unfolding first
 one-says-no qs zero h = absurd (h refl)
 one-says-no qs (suc n) h = refl
 
+-- a group of one
+pub first-one : (q : ℕ) → first (q ∷ []) ≡ q
+unfolding first
+first-one zero = refl
+first-one (suc q) = refl
+
+pub first-rest : (q : ℕ) (qs : List ℕ) → first (q ∷ qs) ≡ first (q ∷ first qs ∷ [])
+unfolding first
+first-rest zero qs = sym (first-one (first qs))
+first-rest (suc q) qs = refl
+
 -- groups in a row
 pub first-append : (xs ys : List ℕ) → first (xs ++ ys) ≡ first (first xs ∷ ys)
 unfolding first

@@ -1,26 +1,24 @@
 -- Refusals of the Rust that cannot arise: document 01, "`unknown external input`, `connector occurs in multiple block port lists` .. can't arise
 -- after these questions; that is proved"; and its test that a manifest is written in the one way that there is.
 use Prim.Native.Nat.{ℕ, zero, suc}
-use mathlib.Core.Path.{_≡_, refl, sym, ap, _∙_, subst}
-use mathlib.Core.Bool.{Bool, true, false, false≢true}
+use mathlib.Core.Path.{_≡_, refl, subst}
+use mathlib.Core.Bool.{Bool, true}
 use mathlib.Core.List.{List, [], _∷_}
-use lib.ListN.{length, getD}
+use lib.ListN.{length}
 use lib.Dec.{leb, eqb}
 use Rattle.text.proofs.Blocks.{both}
 use Rattle.state.specs.Bytes.{AreBytes}
 use Rattle.state.specs.Outcome.{got}
 use Rattle.state.proofs.Outcome.{Yields, this, nothing, yielded, yields-ask, yields-bind, yields-so}
 use Rattle.state_wire.specs.Fields.{maxSnapshotBytes}
-use Rattle.order.proofs.Laws.{lex-refl}
-use Rattle.format.specs.Lists.{isLess, before, allDifferent}
+use Rattle.format.specs.Lists.{allDifferent}
 use Rattle.format.specs.Format.{late, wire, El, encode}
 use Rattle.format.specs.Admits.{All, Holds}
 use Rattle.format.specs.Keys.{blockKey, direction}
 use Rattle.format.specs.Manifest.{counted, connectorKeys, blockRest, enums, blocks, manifest}
 use Rattle.format.specs.Fields.{Entry, enumsOf, blocksOf, connectorsOf, externalInputsOf, externalInput, blockKeyOf, inputs, outputs}
-use Rattle.format.specs.Pairwise.{Ascending, Different}
 use Rattle.format.specs.Reading.{indexWords, readManifest, readSections}
-use Rattle.format.proofs.Pairwise.{ascending-iff, different-iff}
+use Rattle.format.proofs.Pairwise.{ascending-iff, ascending-different, different-iff}
 use Rattle.format.proofs.Canonical.{canonical}
 use Rattle.format.proofs.Values.{self}
 use Rattle.questions.specs.Sets.{all, gather, first}
@@ -56,9 +54,6 @@ all-pass : (es : List (Entry enums)) (bs : List (Entry blocks)) → All (λ b. H
     → All (λ b. blockAnswer es b ≡ 0) bs → All Passes bs
 all-pass es [] h e = tt
 all-pass es (b ∷ bs) h e = (passes es b (h .0 .1) (e .0), all-pass es bs (h .1) (e .1))
-
-ascending-different : (ks : List (List ℕ)) → Ascending ks → Different ks
-ascending-different ks a i j l k q = false≢true (sym (ap isLess (lex-refl (getD ks j []))) ∙ subst (λ x. before x (getD ks j []) ≡ true) q (a i j l k))
 
 -- question 9 leaves no block key twice
 blocks-named-once : (bs : List (Entry blocks)) → Holds maxSnapshotBytes (counted blocks) bs → allDifferent (blockNames bs) ≡ true

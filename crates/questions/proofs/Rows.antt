@@ -1,7 +1,7 @@
 -- Document 01, "Entries checked", and the manifests of Cases.antt: a table, with one theorem over all rows. The answers are those of the Rust.
 use Prim.Native.Nat.{ℕ, _-_, _^_}
 use mathlib.Core.Path.{_≡_, refl}
-use mathlib.Core.List.{List, [], _∷_, _++_, map}
+use mathlib.Core.List.{List, [], _∷_, _++_}
 use lib.ListN.{length, replicate}
 use Rattle.state.specs.Bytes.{numberOf, bytesOf}
 use Rattle.state.specs.declared.Answer.{Answer}
@@ -18,6 +18,7 @@ use Rattle.format.specs.Keys.{blockKey, connectorKey, owner, direction, portInd
 use Rattle.format.specs.Manifest.{valueType, value, members, params, connectorKeys, blockHead, blockRest, connectorRest, slotRest, inputRest, portability, manifest}
 use Rattle.format.specs.Fields.{portabilityOf, enumsOf, blocksOf, connectorsOf, connectionsOf, scheduleOf, connectorOrderOf, driversOf, slotsOf, externalInputsOf, boundaryOutputsOf, inputDefinitionsOf, portabilityTag, target, enumPath, membersOf, blockKeyOf, classPath, kind, stateRevision, stateLen, paramsOf, inputs, outputs, connectorKeyOf, path, valueTypeOf, source, sink, scheduled, ordered, driven, driver, slotKey, slotOffset, slotLength, externalInput, outputName, outputSource, inputPath, inputType, minimum, maximum, typeTag, valueTag, typeClass, valueClass, ordinal, given}
 use Rattle.format.specs.Reading.{indexWords, readSections, readManifest}
+use Rattle.format.proofs.Lists.{alike-each}
 use Rattle.questions.specs.Sets.{all, any, keep, gather, allIn, sameSet, eachOnce, countDifferent, _unless_, first}
 use Rattle.questions.specs.Declarations.{blockNames, connectorNames, hasMember, isStateful, kindHolds, inRange, enumHolds, paramsHold, portHolds, portsHold, blockAnswer, portNames, blockPorts, portsAre, paramClasses, classesAre, declarations}
 use Rattle.questions.specs.References.{isKnown, isDirected, joins, scheduleHolds, orderHolds, drives, driversHold, references, externalNames, externalsHold, outputsHold, boundaries}
@@ -61,11 +62,6 @@ entryRows =
 abbrev rows : List Row
 rows = entryRows ++ acceptedRows ++ declarationRows ++ referenceRows ++ slotRows ++ boundaryRows ++ inputRows ++ portabilityRows
 
--- two functions that answer alike over a list do so on each element
-all-so : {A B : Type 0} (f g : A → B) (xs : List A) → map f xs ≡ map g xs → All (λ x. f x ≡ g x) xs
-all-so f g [] e = tt
-all-so f g (x ∷ xs) e = (cc e, all-so f g xs (cc e))
-
 -- ---- words and units: "P .. Accepted, 1 word, 4 units"; 39 above 2^64 − 1
 record Figure : Type 0 where
   bytes : List ℕ
@@ -92,4 +88,4 @@ answerTo r = decodeManifest targetBoundClasses (r .bytes) (r .base) (r .revision
 -- each row is answered as it says
 rows-hold : All (λ (r : Row). answerTo r ≡ r .answer) rows × All (λ (f : Figure). figureOf f ≡ f .figure) figures
 unfolding unitsAnswer unitsOf wordTotal hex pairs digits decodeManifest judge firstFailing answers declarations references slots boundaries inputDefinitionsHold portabilityHolds all any keep gather allIn sameSet eachOnce countDifferent _unless_ first blockNames connectorNames hasMember isStateful kindHolds inRange enumHolds paramsHold portHolds portsHold blockAnswer portNames blockPorts portsAre paramClasses classesAre isKnown isDirected joins scheduleHolds orderHolds drives driversHold externalNames externalsHold outputsHold slotName slotKeysAre lengthIs endFits slotAnswer words insert byOffset joinFrom externals sameType hasType oneType countIs isDefined boundHolds boundAnswer definitionAnswer inputAnswers ascii targetBoundClasses someBound tagHolds targetHolds portabilityOf enumsOf blocksOf connectorsOf connectionsOf scheduleOf connectorOrderOf driversOf slotsOf externalInputsOf boundaryOutputsOf inputDefinitionsOf portabilityTag target enumPath membersOf blockKeyOf classPath kind stateRevision stateLen paramsOf inputs outputs connectorKeyOf path valueTypeOf source sink scheduled ordered driven driver slotKey slotOffset slotLength externalInput outputName outputSource inputPath inputType minimum maximum typeTag valueTag typeClass valueClass ordinal given owner direction portIndex readManifest readSections read encode readSpan readNumber readTag readCount boundedCount readText validUpTo numberOf bytesOf blockKey connectorKey valueType value members params connectorKeys blockHead blockRest connectorRest slotRest inputRest portability manifest isIn allDifferent lexCompare
-rows-hold = (all-so answerTo (λ (r : Row). r .answer) rows refl, all-so figureOf (λ (f : Figure). f .figure) figures refl)
+rows-hold = (alike-each answerTo (λ (r : Row). r .answer) rows refl, alike-each figureOf (λ (f : Figure). f .figure) figures refl)

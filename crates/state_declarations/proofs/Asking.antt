@@ -1,7 +1,7 @@
 -- Questions 15 and 16 whole, and all of 11 to 16 of the manifest that was read.
 use Prim.Native.Nat.{ℕ, _+_, _-_, _≤_}
 use native.Mathlib.Omega.{arith}
-use mathlib.Core.Path.{_≡_, refl, sym, ap, _∙_}
+use mathlib.Core.Path.{_≡_, ap, _∙_}
 use mathlib.Core.Bool.{Bool, true, false}
 use mathlib.Core.List.{List, [], _∷_, _++_, map}
 use lib.ListN.{length}
@@ -13,6 +13,7 @@ use Rattle.format.specs.Fields.{enumsOf, blocksOf, connectorsOf}
 use Rattle.format.specs.Values.{valueAt, Well}
 use Rattle.questions.specs.Sets.{all, sameSet, _unless_, first}
 use Rattle.questions.specs.Declarations.{hasMember, blockAnswer, blockPorts, portsAre, paramClasses, classesAre, declarations}
+use Rattle.questions.proofs.Chains.{one-says-no}
 use Rattle.state_index.specs.declared.Found.{Found}
 use Rattle.state_index.specs.declared.Found.the-variants.{At, Nothing}
 use Rattle.state_index.specs.Sort.{Kept}
@@ -27,7 +28,6 @@ use Rattle.state_layout.proofs.Names.{table-keyed, names-connectors, paths-enum
 use Rattle.state_layout.proofs.Indexed.{table-enums, table-blocks, table-connectors, rows, room, tabled-kept}
 use Rattle.state_declarations.specs.Each.{MarksEach}
 use Rattle.state_declarations.specs.Placed.{Placed}
-use Rattle.state_declarations.proofs.Holds.{first-some}
 use Rattle.state_declarations.proofs.Meeting.{each-join, each-fail, named, clean-keyed, clean-words, asked-kept, unlisted, all-listed, same-turned}
 use Rattle.state_declarations.proofs.Naming.{typesOf}
 
@@ -138,17 +138,11 @@ module _ {s index : List ℕ} {a b c d e : ℕ} (p : Placed s index a b c d e) w
   unfolding classesAre
   classes-same h = h ∙ rw (blocks-there .values, connectors-there .values, paths-enums classes-there)
 
-  pub leaves-all : Leaves s index index
-  leaves-all = record { tabled = p .tabled; long = refl }
-
   -- marks behind the tables change no table
   pub placed-kept : {to : ℕ} {new : List ℕ} → Kept e to index new → Placed s new a b c d e × Leaves s index new
   placed-kept {to} k =
       let l = tabled-kept e to (p .tabled) k (rw (p .room) (omega arith)) in
       (record { tabled = l .tabled; first = p .first; second = p .second; third = p .third; fourth = p .fourth; room = p .room }, l)
-
-pub leaves-again : {s x y z : List ℕ} → Leaves s x y → Leaves s y z → Leaves s x z
-leaves-again g h = record { tabled = h .tabled; long = h .long ∙ g .long }
 
 -- ---- the first that says no
 module _ (m : El manifest) {x : Bool} (ex : x ≡ all hasMember (enumsOf m)) where
@@ -159,7 +153,7 @@ module _ (m : El manifest) {x : Bool} (ex : x ≡ all hasMember (enumsOf m)) whe
   module _ (hx : x ≡ true) {q : ℕ} (eq : q ≡ first (map (blockAnswer (enumsOf m)) (blocksOf m))) where
     pub says-block : (q ≡ 0 → ⊥) → q ≡ first (declarations m)
     unfolding declarations first _unless_
-    says-block h = rw (← ex, hx, ← eq) (sym (first-some q (15 unless (portsAre (blocksOf m) (connectorsOf m)) ∷ 16 unless (classesAre (enumsOf m) (blocksOf m) (connectorsOf m)) ∷ []) h))
+    says-block h = rw (← ex, hx, ← eq) (one-says-no (15 unless (portsAre (blocksOf m) (connectorsOf m)) ∷ 16 unless (classesAre (enumsOf m) (blocksOf m) (connectorsOf m)) ∷ []) q h)
 
     module _ (hq : q ≡ 0) {y : Bool} (ey : y ≡ portsAre (blocksOf m) (connectorsOf m)) where
       pub says-15 : y ≡ false → 15 ≡ first (declarations m)

@@ -1,7 +1,7 @@
 -- Questions 11 to 14: what is left to ask after some entries.
-use Prim.Native.Nat.{ℕ, zero, suc, _+_, _-_, _≤_, _<_, min}
+use Prim.Native.Nat.{ℕ, suc, _+_, _-_, _≤_, _<_, min}
 use native.Mathlib.Omega.{arith}
-use mathlib.Core.Path.{_≡_, refl, sym, ap, _∙_}
+use mathlib.Core.Path.{_≡_, sym, ap, _∙_}
 use mathlib.Core.Bool.{Bool, true, false, _&&_}
 use mathlib.Core.List.{List, [], _∷_, map}
 use lib.ListN.{length, getD}
@@ -14,6 +14,7 @@ use Rattle.format.specs.Fields.{Entry, paramsOf, inputs, outputs, blockKeyOf}
 use Rattle.format.specs.Places.{numberAt, past}
 use Rattle.format.specs.Values.{valueAt, Well}
 use Rattle.questions.specs.Sets.{all, _unless_, first}
+use Rattle.questions.proofs.Chains.{one-says-no}
 use Rattle.questions.specs.Declarations.{kindHolds, enumHolds, paramsHold, portHolds, portsHold, blockAnswer}
 use Rattle.state_layout.specs.Classes.{classesAt}
 use Rattle.state_layout.proofs.Tables.{limit}
@@ -34,18 +35,13 @@ unfolding all
 all-end t e i = sym (ap (all t) e) ∙ i
 
 -- ---- the first that says no
-pub first-some : (x : ℕ) (xs : List ℕ) → (x ≡ 0 → ⊥) → first (x ∷ xs) ≡ x
-unfolding first
-first-some zero xs n = absurd (n refl)
-first-some (suc x) xs n = refl
-
 module _ {x : ℕ} {l xs : List ℕ} {a : ℕ} (e : l ≡ x ∷ xs) (i : first l ≡ a) where
   first-next : x ≡ 0 → first xs ≡ a
   unfolding first
   first-next h = sym (ap first e ∙ rw h) ∙ i
 
   first-no : (x ≡ 0 → ⊥) → x ≡ a
-  first-no h = sym (first-some x xs h) ∙ sym (ap first e) ∙ i
+  first-no h = one-says-no xs x h ∙ sym (ap first e) ∙ i
 
 first-end : {l : List ℕ} {a : ℕ} → l ≡ [] → first l ≡ a → 0 ≡ a
 unfolding first

@@ -23,7 +23,7 @@ use Rattle.state_layout.proofs.Tables.{limit}
 use Rattle.state_layout.proofs.Kept.{span-kept}
 use Rattle.state_declarations.specs.Each.{MarksEach, classAt}
 use Rattle.state_declarations.proofs.Walks.{entriesAt, entries-next, entries-end, portsAt, PortsWell, ports-list, ports-each, words-all}
-use Rattle.state_declarations.proofs.Parts.{value-class}
+use Rattle.state_declarations.proofs.Parts.{class-at}
 use Rattle.state_declarations.proofs.Meeting.{each-none, each-one, Marking, marking-start, marking-next, marking-fail, marking-end, named, words-marked, words-failed}
 
 -- ---- the class of a value or a value type
@@ -93,7 +93,7 @@ module _ {s : List ℕ} {from to marks : ℕ} (at : ℕ) where
     module _ (l : 0 < left) {v : ℕ} (i : v ≡ past text s p) {f : Found} {new : List ℕ} (m : MarksEach enums s from to marks (classAt s v) f now new) where
       classes : {e : ℕ} → e ≡ past value s v → classesOf (entriesAt text value s left p) ≡ classAt s v ++ classesOf (entriesAt text value s (left - 1) e)
       unfolding gather
-      classes j = rw (entries-next text value s left p l i j, value-class s v)
+      classes j = rw (entries-next text value s left p l i j, class-at s v)
 
       pub classes-next : {w e : ℕ} → f ≡ At w → e ≡ past value s v → ClassesLeft s from to marks at (left - 1) e old new
       classes-next q j = marking-next h _ (classes j) m q

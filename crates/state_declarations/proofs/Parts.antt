@@ -1,76 +1,36 @@
 -- What stands where in blocks, values and value types.
-use Prim.Native.Nat.{ℕ, zero, suc, _+_, min}
+use Prim.Native.Nat.{ℕ, _+_, min}
 use native.Mathlib.Omega.{arith}
 use mathlib.Core.Path.{_≡_, refl, sym, _∙_}
 use mathlib.Core.Bool.{Bool, true, false, cond, not, _&&_}
-use mathlib.Core.List.{List, [], _∷_, _++_}
+use mathlib.Core.List.{List, _++_}
 use lib.ListN.{length, getD}
 use lib.Dec.{eqb, ltb}
 use borrow.Author.Tests.{lt-ltb, eq-eqb, ne-eqb}
 use Rattle.state.specs.Bytes.{AreBytes, span}
 use Rattle.format.specs.Lists.{same}
-use Rattle.format.specs.Format.{Fmt, El, done, number, tag, text, _then_}
+use Rattle.format.specs.Format.{number, text, _then_}
 use Rattle.format.specs.Keys.{blockKey, connectorKey, wireDir, owner, direction, portIndex}
 use Rattle.format.specs.Manifest.{valueType, value, members, params, connectorKeys, blockHead, blockRest, connectorRest, entry, enums, blocks, connectors}
-use Rattle.format.specs.Fields.{Entry, blockKeyOf, kind, stateRevision, stateLen, inputs, outputs, membersOf, valueTypeOf, typeClass, valueClass}
+use Rattle.format.specs.Fields.{blockKeyOf, kind, stateRevision, stateLen, inputs, outputs, membersOf, valueTypeOf, typeClass, valueClass}
 use Rattle.format.specs.Places.{numberAt, past}
 use Rattle.format.specs.Values.{valueAt, Well}
 use Rattle.format.proofs.Values.{values-length, well-then, written}
-use Rattle.questions.specs.Sets.{all}
-use Rattle.questions.specs.Declarations.{hasMember, isStateful, kindHolds, enumHolds, portHolds, portNames, blockPorts}
+use Rattle.questions.specs.Declarations.{hasMember, isStateful, kindHolds, portHolds, portNames, blockPorts}
 use Rattle.state_layout.proofs.Tables.{limit}
+use Rattle.state_layout.proofs.Choosing.{typed, typed-class, value-class}
 use Rattle.state_declarations.specs.Each.{classAt}
 
 module _ (s : List ℕ) where
   -- ---- classes of values and of value types
-  abbrev types : List Fmt
-  types = done ∷ done ∷ done ∷ done ∷ text ∷ []
-
-  abbrev values : List Fmt
-  values = number 8 ∷ number 8 ∷ tag 2 ∷ text ∷ (text then number 4) ∷ []
-
-  unfoldable typed : (t p : ℕ) → El valueType
-  unfolding valueType
-  typed t p = (t, valueAt (getD types t done) s p)
-
-  unfoldable valued : (t p : ℕ) → El value
-  unfolding value
-  valued t p = (t, valueAt (getD values t done) s p)
-
-  -- the text at p, where the tag is 4
-  abbrev classOf : (t p : ℕ) → List (List ℕ)
-  classOf t p = cond (eqb t 4) (valueAt text s p ∷ []) []
-
-  typed-class : (t p : ℕ) → typeClass (typed t p) ≡ classOf t p
-  unfolding typeClass typed valueType
-  typed-class zero p = refl
-  typed-class (suc zero) p = refl
-  typed-class (suc (suc zero)) p = refl
-  typed-class (suc (suc (suc zero))) p = refl
-  typed-class (suc (suc (suc (suc zero)))) p = refl
-  typed-class (suc (suc (suc (suc (suc t))))) p = rw (ne-eqb (suc (suc (suc (suc (suc t))))) 4 (λ e. omega arith))
-
-  valued-class : (t p : ℕ) → valueClass (valued t p) ≡ classOf t p
-  unfolding valueClass valued value valueAt
-  valued-class zero p = refl
-  valued-class (suc zero) p = refl
-  valued-class (suc (suc zero)) p = refl
-  valued-class (suc (suc (suc zero))) p = refl
-  valued-class (suc (suc (suc (suc zero)))) p = refl
-  valued-class (suc (suc (suc (suc (suc t))))) p = rw (ne-eqb (suc (suc (suc (suc (suc t))))) 4 (λ e. omega arith))
-
-  pub value-class : (at : ℕ) → valueClass (valueAt value s at) ≡ classAt s at
-  unfolding valueAt value classAt valued
-  value-class at = valued-class (getD s at 0) (min (at + 1) (length s))
-
-  pub no-enum : (at : ℕ) (es : List (Entry enums)) {t : ℕ} → t ≡ getD s at 0 → (t ≡ 4 → ⊥) → true ≡ enumHolds es (valueAt value s at)
-  unfolding enumHolds all classAt
-  no-enum at es {t} e n = rw (value-class at, ← e, ne-eqb t 4 n)
+  pub class-at : (at : ℕ) → valueClass (valueAt value s at) ≡ classAt s at
+  unfolding classAt
+  class-at at = value-class s at
 
   -- of the connector at a position, whose type stands at p
   pub type-class : (at : ℕ) {p : ℕ} → p ≡ past (number 4) s (past text s (past connectorKey s at)) → typeClass (valueTypeOf (valueAt (entry connectors) s at)) ≡ classAt s p
   unfolding valueAt valueType classAt typed valueTypeOf connectorRest
-  type-class at {p} e = rw e (typed-class (getD s (past (number 4) s (past text s (past connectorKey s at))) 0) (min (past (number 4) s (past text s (past connectorKey s at)) + 1) (length s)))
+  type-class at {p} e = rw e (typed-class s (getD s (past (number 4) s (past text s (past connectorKey s at))) 0) (min (past (number 4) s (past text s (past connectorKey s at)) + 1) (length s)))
 
   -- ---- a class
   member-there : (q : ℕ) → hasMember (valueAt (entry enums) s q) ≡ ltb 0 (numberAt 4 s (past text s q))

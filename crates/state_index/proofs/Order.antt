@@ -1,14 +1,14 @@
 -- Keys in order: `before` of format is a strict order, so what does not come after is one that is total, transitive and antisymmetric.
 use Prim.Native.Nat.{ℕ}
 use native.Mathlib.Omega.{arith}
-use mathlib.Core.Path.{_≡_, refl, sym, ap, subst, _∙_}
+use mathlib.Core.Path.{_≡_, refl, sym, subst, _∙_}
 use mathlib.Core.Bool.{Bool, true, false, not}
 use mathlib.Core.List.{List}
 use Rattle.order.specs.declared.Order.{Order}
 use Rattle.order.specs.declared.Order.the-variants.{Less, Equal, Greater}
 use Rattle.order.specs.Lex.{lexCompare}
 use Rattle.order.proofs.Laws.{lex-turned, lex-refl, lex-equal-iff, lex-trans}
-use Rattle.format.specs.Lists.{isLess, isEqual, before, same}
+use Rattle.format.specs.Lists.{isLess, before, same}
 
 pub apart : {A : Type 0} → true ≡ false → A
 apart e = let z : _≡_ {A = ℕ} 0 1 = cc in absurd (omega arith)
@@ -32,17 +32,6 @@ module _ (x y : List ℕ) where
 
   pub leq-total : leq x y ≡ false → leq y x ≡ true
   leq-total e = let l : lexCompare y x ≡ Less = less-is (lexCompare y x) e in rw (lex-turned y x, l)
-
-  pub same-eq : same x y ≡ true → x ≡ y
-  same-eq e = go (lexCompare x y) refl e
-    where
-      go : (o : Order) → lexCompare x y ≡ o → isEqual o ≡ true → x ≡ y
-      go Less h q = apart (sym q)
-      go Equal h q = lex-equal-iff x y .0 h
-      go Greater h q = apart (sym q)
-
-  pub same-of : x ≡ y → same x y ≡ true
-  same-of e = ap isEqual (lex-equal-iff x y .1 e)
 
   pub less-not-same : lexCompare x y ≡ Less → same x y ≡ false
   less-not-same e = rw e

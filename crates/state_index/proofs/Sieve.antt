@@ -11,7 +11,8 @@ use lib.Dec.{eqb, ltb}
 use lib.Seq.{slice, slice-cons, take-set-le, take-suc-set, append-snoc, getD-set-same, getD-set-other, getD-take}
 use borrow.Author.Tests.{eqb-true, eqb-false, lt-ltb, le-ltb}
 use Rattle.format.specs.Lists.{same, isIn, allDifferent}
-use Rattle.state_index.proofs.Order.{apart, is-false, same-eq}
+use Rattle.format.proofs.Lists.{same-true}
+use Rattle.state_index.proofs.Order.{apart, is-false}
 use Rattle.state_index.proofs.Lists.{slice-past, slice-set-after, slice-set-before, filled, filled-front, filled-at}
 use Rattle.state_index.proofs.Sorting.{perm-map, different-perm}
 
@@ -111,7 +112,7 @@ module _ (key : ℕ → List ℕ) (slot : ℕ → ℕ) (first : ℕ) where
 
   module _ (shared : (p q : ℕ) → key p ≡ key q → slot p ≡ slot q) where
     others : (p q : ℕ) → (slot p ≡ slot q → ⊥) → same (key p) (key q) ≡ false
-    others p q f = is-false (same (key p) (key q)) (λ e. f (shared p q (same-eq (key p) (key q) e)))
+    others p q f = is-false (same (key p) (key q)) (λ e. f (shared p q (same-true (key p) (key q) e)))
 
     -- x is placed in a free slot
     module _ (t u : ℕ → ℕ) (x : ℕ) (f : free t x ≡ true) (here : u (slot x) ≡ x) (there : (g : ℕ) → (g ≡ slot x → ⊥) → u g ≡ t g) where

@@ -18,7 +18,7 @@ use Rattle.format.specs.Places.{past, keyAt}
 use Rattle.format.specs.Values.{valueAt, Well}
 use Rattle.format.proofs.Values.{well-then, key-written}
 use Rattle.questions.specs.Sets.{keep, countDifferent, first}
-use Rattle.questions.proofs.Chains.{says-yes, says-no}
+use Rattle.questions.proofs.Chains.{says-yes, says-no, first-one}
 use Rattle.questions.specs.Inputs.{externals, sameType, oneType, countIs, isDefined, definitionAnswer, inputAnswers}
 use Rattle.questions.specs.References.{externalNames}
 use Rattle.state_index.specs.Keys.{textAt}
@@ -29,7 +29,6 @@ use Rattle.state_layout.proofs.Names.{keys-are}
 use Rattle.state_layout.proofs.Tables.{limit}
 use Rattle.state_io.specs.Paths.{typeAt, definitionAt, agree, allAgree, neighboursAgree, countRuns, definedAmong, answerAmong, answersAmong, Sorted, Sought}
 use Rattle.state_io.proofs.Bools.{pairs-map, any-perm}
-use Rattle.state_io.proofs.Firsts.{first-one}
 use Rattle.state_io.proofs.Neighbours.{neighbours-agree, agree-perm, runs-different, count-perm}
 
 -- ---- what neighbours of sorted paths answer

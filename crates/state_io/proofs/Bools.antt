@@ -2,43 +2,24 @@
 use Prim.Native.Nat.{ℕ, zero, suc, _<_}
 use native.Mathlib.Omega.{arith}
 use mathlib.Core.Path.{_≡_, refl, sym, _∙_}
-use mathlib.Core.Bool.{Bool, true, false, _&&_, _||_, and-false}
+use mathlib.Core.Bool.{Bool, true, false, _&&_, _||_}
 use mathlib.Core.List.{List, [], _∷_, map, List·Permᴰ, List·Permᴰ·nil, List·Permᴰ·cons, List·Permᴰ·swap, List·Permᴰ·trans}
 use lib.ListN.{length, getD}
 use Rattle.state_index.proofs.Order.{apart}
+use Rattle.state_index.proofs.Sorting.{or-swap}
 use Rattle.questions.specs.Sets.{all, any}
+use Rattle.questions.proofs.Sets.{all-map}
 
 and-swap : (p q r : Bool) → (p && (q && r)) ≡ (q && (p && r))
 and-swap true q r = refl
 and-swap false true r = refl
 and-swap false false r = refl
 
-pub or-swap : (p q r : Bool) → (p || (q || r)) ≡ (q || (p || r))
-or-swap true true r = refl
-or-swap true false r = refl
-or-swap false q r = refl
-
--- each says yes where the other does
-pub both-ways : (p q : Bool) → (p ≡ true → q ≡ true) → (q ≡ true → p ≡ true) → p ≡ q
-both-ways true q f g = sym (f refl)
-both-ways false true f g = g refl
-both-ways false false f g = refl
-
 module _ {A : Type 0} where
   pub all-ext : (t u : A → Bool) → ((x : A) → t x ≡ u x) → (l : List A) → all t l ≡ all u l
   unfolding all
   all-ext t u h [] = refl
   all-ext t u h (x ∷ l) = rw (h x, all-ext t u h l)
-
-  pub all-both : (t u : A → Bool) (l : List A) → all (λ x. t x && u x) l ≡ (all t l && all u l)
-  unfolding all
-  all-both t u [] = refl
-  all-both t u (x ∷ l) = go (t x) (u x) (all-both t u l)
-    where
-      go : (p q : Bool) → all (λ x. t x && u x) l ≡ (all t l && all u l) → ((p && q) && all (λ x. t x && u x) l) ≡ ((p && all t l) && (q && all u l))
-      go true true e = e
-      go true false e = sym (and-false (all t l))
-      go false q e = refl
 
   pub all-perm : (t : A → Bool) {l r : List A} → List·Permᴰ l r → all t l ≡ all t r
   unfolding all
@@ -53,11 +34,6 @@ module _ {A : Type 0} where
   any-perm t (List·Permᴰ·cons e p) = rw (e, any-perm t p)
   any-perm t (List·Permᴰ·swap {a = a} {b = b} {l = l} e f) = rw (← e, ← f) (or-swap (t a) (t b) (any t l))
   any-perm t (List·Permᴰ·trans p q) = any-perm t p ∙ any-perm t q
-
-  all-map : {B : Type 0} (t : A → Bool) (f : B → A) (l : List B) → all t (map f l) ≡ all (λ x. t (f x)) l
-  unfolding all
-  all-map t f [] = refl
-  all-map t f (x ∷ l) = rw (all-map t f l)
 
 -- of each with each
 pub pairs-map : {A B : Type 0} (r : A → A → Bool) (f : B → A) (l : List B)

@@ -7,58 +7,24 @@ use mathlib.Core.List.{List, [], _∷_, _++_, map, map-append}
 use lib.ListN.{length, getD}
 use lib.Dec.{eqb}
 use borrow.Author.Tests.{eq-eqb, ne-eqb}
-use Rattle.format.specs.Format.{El, Fmt, done, number, tag, text, _then_}
+use Rattle.format.specs.Format.{El, done, _then_}
 use Rattle.format.specs.Manifest.{valueType, value, optional, enums}
-use Rattle.format.specs.Fields.{Entry, typeTag, typeClass, valueTag, valueClass, given}
+use Rattle.format.specs.Fields.{Entry, typeTag, typeClass, valueTag, given}
 use Rattle.format.specs.Values.{valueAt}
-use Rattle.questions.specs.Sets.{all, allIn, first, _unless_}
+use Rattle.questions.specs.Sets.{allIn, first, _unless_}
 use Rattle.questions.specs.Declarations.{enumHolds}
-use Rattle.questions.proofs.Chains.{says-yes, says-no, group-no, group-yes}
+use Rattle.questions.proofs.Chains.{says-yes, says-no, first-one, group-no, group-yes}
 use Rattle.questions.specs.Inputs.{sameType, hasType, boundHolds, boundAnswer}
-use Rattle.state_io.proofs.Firsts.{first-one}
-
-abbrev types : List Fmt
-types = done ∷ done ∷ done ∷ done ∷ text ∷ []
-
-abbrev values : List Fmt
-values = number 8 ∷ number 8 ∷ tag 2 ∷ text ∷ (text then number 4) ∷ []
-
-unfoldable typed : List ℕ → (t p : ℕ) → El valueType
-unfolding valueType
-typed s t p = (t, valueAt (getD types t done) s p)
-
-unfoldable valued : List ℕ → (t p : ℕ) → El value
-unfolding value
-valued s t p = (t, valueAt (getD values t done) s p)
-
--- the class of an enum value stands where that of an enum type does
-class-of : (s : List ℕ) (t p : ℕ) → valueClass (valued s t p) ≡ typeClass (typed s t p)
-unfolding valueClass typeClass valued typed value valueType valueAt
-class-of s zero p = refl
-class-of s (suc zero) p = refl
-class-of s (suc (suc zero)) p = refl
-class-of s (suc (suc (suc zero))) p = refl
-class-of s (suc (suc (suc (suc zero)))) p = refl
-class-of s (suc (suc (suc (suc (suc t))))) p = refl
-
--- no other value has one
-no-class : (s : List ℕ) (t p : ℕ) → (t ≡ 4 → ⊥) → valueClass (valued s t p) ≡ []
-unfolding valueClass valued value
-no-class s zero p n = refl
-no-class s (suc zero) p n = refl
-no-class s (suc (suc zero)) p n = refl
-no-class s (suc (suc (suc zero))) p n = refl
-no-class s (suc (suc (suc (suc zero)))) p n = absurd (n refl)
-no-class s (suc (suc (suc (suc (suc t))))) p n = refl
+use Rattle.state_layout.proofs.Choosing.{typed, valued, typed-class, valued-class, no-enum}
 
 module _ (s : List ℕ) (at : ℕ) where
+  -- the class of an enum value stands where that of an enum type does
   has-type : (t : El valueType) → hasType (valueAt value s at) t ≡ sameType (valueAt valueType s at) t
   unfolding hasType sameType valueTag typeTag valueAt value valueType valued typed
-  has-type t = ap (λ (l : List (List ℕ)). eqb (getD s at 0) (typeTag t) && allIn l (typeClass t)) (class-of s (getD s at 0) (min (at + 1) (length s)))
-
-  no-enum : (es : List (Entry enums)) → (getD s at 0 ≡ 4 → ⊥) → enumHolds es (valueAt value s at) ≡ true
-  unfolding enumHolds valueAt value valued all
-  no-enum es n = rw (no-class s (getD s at 0) (min (at + 1) (length s)) n)
+  has-type t =
+      let k : ℕ = getD s at 0 in
+      let p : ℕ = min (at + 1) (length s) in
+      ap (λ (l : List (List ℕ)). eqb k (typeTag t) && allIn l (typeClass t)) (valued-class s k p ∙ sym (typed-class s k p))
 
   tag-of : valueTag (valueAt value s at) ≡ getD s at 0
   unfolding valueTag valueAt value
@@ -98,7 +64,7 @@ module _ (s : List ℕ) (at : ℕ) where
         bound-fails e = says-no 29 [] e ∙ sym (says-yes 29 _ (typed-bound ∙ yes))
 
         pub bound-plain : (k ≡ 4 → ⊥) → 0 ≡ answer
-        bound-plain l = bound-holds (no-enum es (rw (← ek) l))
+        bound-plain l = bound-holds (sym (no-enum s at es ek l))
 
 -- ---- a bound that may be left out
 abbrev opted : (s : List ℕ) (t p : ℕ) → El (optional value)

@@ -1,19 +1,14 @@
--- The first answer that says no: of one, and of the words of an index.
-use Prim.Native.Nat.{ℕ, zero, suc, _+_, _≤_, _<_}
-use mathlib.Core.Path.{_≡_, refl, sym}
-use mathlib.Core.List.{List, [], _∷_, map}
+-- The first answer that says no, of the words of an index.
+use Prim.Native.Nat.{ℕ, _+_, _≤_, _<_}
+use mathlib.Core.Path.{_≡_, sym}
+use mathlib.Core.List.{List, map}
 use lib.ListN.{length, getD}
 use Rattle.state.specs.Bytes.{span}
 use Rattle.state.proofs.Bytes.{span-cons, span-none}
 use Rattle.questions.specs.Sets.{first}
 use Rattle.questions.proofs.Chains.{none-says-no, one-says-no}
 
-pub first-one : (n : ℕ) → first (n ∷ []) ≡ n
-unfolding first
-first-one zero = refl
-first-one (suc n) = refl
-
--- ---- the answers of the words i..high of an index, each by its word
+-- the answers of the words i..high of an index, each by its word
 module _ (g : ℕ → ℕ) (index : List ℕ) (high : ℕ) where
   abbrev pub firstOf : (i : ℕ) → ℕ
   firstOf i = first (map g (span index i high))

@@ -3,56 +3,35 @@ use Prim.Native.Nat.{ℕ, zero, suc, _+_, _-_, _≤_, _<_}
 use native.Mathlib.Omega.{arith}
 use native.Mathlib.Numerals.{add-one}
 use mathlib.Core.Path.{_≡_, refl, sym, ap, _∙_}
-use mathlib.Core.Bool.{Bool, true, false, cond}
+use mathlib.Core.Bool.{true}
 use mathlib.Core.List.{List, [], _∷_, _++_, map, append-assoc, append-nil}
 use lib.ListN.{length, getD, set, take, drop}
 use lib.Seq.{getD-take, take-suc-set, drop-append-le, length-take-le}
 use Rattle.state.specs.Bytes.{span}
 use Rattle.state.proofs.Bytes.{span-cons, span-nil}
-use Rattle.text.proofs.Blocks.{neither}
 use Rattle.format.specs.Lists.{same, isIn}
 use Rattle.format.specs.Keys.{connectorKey}
 use Rattle.format.specs.Manifest.{connectors, externalInputs, numbered}
 use Rattle.format.specs.Places.{past, keyAt}
-use Rattle.format.proofs.Lists.{same-sym}
 use Rattle.questions.specs.Sets.{keep}
 use Rattle.state_index.specs.declared.Found.{Found}
 use Rattle.state_index.specs.declared.Found.the-variants.{At, Nothing}
 use Rattle.state_index.specs.Keys.{atMost}
 use Rattle.state_index.specs.Sort.{SortedIn, Kept}
-use Rattle.state_index.specs.Find.{Finds}
 use Rattle.state_index.proofs.Lists.{slice-run, filled}
-use Rattle.state_index.proofs.Order.{apart}
 use Rattle.state_layout.specs.Marks.{isSet, keysAt, Keyed, marksOf, Marked, Marks}
 use Rattle.state_layout.proofs.Kept.{kept-refl, kept-trans, kept-widen, span-kept, set-kept}
-use Rattle.state_layout.proofs.Marked.{key-found, cleared-kept}
+use Rattle.state_layout.proofs.Marked.{marks-other, is-set, cleared-kept}
 use Rattle.state_io.specs.Gathers.{chosen, Meets, Puts, Gathers}
 
--- ---- one key
-unmet-marks : (seen keys : List (List ℕ)) (k : List ℕ) → isIn k keys ≡ false → marksOf seen keys ≡ marksOf (k ∷ seen) keys
-unfolding marksOf isIn
-unmet-marks seen [] k e = refl
-unmet-marks seen (x ∷ keys) k e =
-    let n = neither (same k x) (isIn k keys) e in
-    rw (same-sym x k, n .0) (ap (λ (l : List ℕ). cond (isIn x seen) 1 0 ∷ l) (unmet-marks seen keys k (n .1)))
-
-module _ {s old : List ℕ} {from to m : ℕ} {key : List ℕ} {f : Found} where
-  -- that names no connector
-  pub unmet : Finds (numbered 4) s old from to key f → f ≡ Nothing → Meets s from to m key old old
-  unfolding numbered
-  unmet r e = record {
-    kept = kept-refl m (m + (to - from)) old;
-    next = λ seen h. record { keyed = h .keyed; set = h .set ∙ unmet-marks seen (keysAt connectors s old from to) key (r .nothing e) };
-  }
-
-  -- that names one
-  pub met : {new : List ℕ} → Keyed connectors s old from to m → Finds (numbered 4) s old from to key f
-      → {w : ℕ} → f ≡ At w → (g : Found) → Marks (numbered 4) s from to m key g old new → Meets s from to m key old new
-  unfolding numbered
-  met k r {w} e (At v) h = record { kept = h .kept; next = h .next v refl }
-  met k r {w} e Nothing h =
-      let a = r .at w e in
-      apart (sym (key-found k (a .0) (a .1) (a .2)) ∙ h .nothing refl)
+-- ---- one key, that names a connector or none
+pub meets : {s old new : List ℕ} {from to m : ℕ} {key : List ℕ} (f : Found) → Marks (numbered 4) s from to m key f old new → Meets s from to m key old new
+unfolding numbered
+meets (At w) h = record { kept = h .kept; next = h .next w refl }
+meets {s} {old} {new} {from} {to} {m} {key} Nothing h = record {
+  kept = h .kept;
+  next = λ seen k. rw (h .same refl) (record { keyed = k .keyed; set = k .set ∙ marks-other seen (keysAt connectors s old from to) key (h .nothing refl) });
+}
 
 pub keyed-connectors : {s index : List ℕ} {from to m : ℕ} → Keyed connectors s index from to m → Keyed (numbered 4) s index from to m
 unfolding numbered
@@ -97,11 +76,6 @@ set-is : (m : ℕ) → (m ≡ 0 → ⊥) → isSet m ≡ true
 unfolding isSet
 set-is zero h = absurd (h refl)
 set-is (suc m) h = refl
-
-is-set : (b : Bool) → isSet (cond b 1 0) ≡ b
-unfolding isSet
-is-set true = refl
-is-set false = refl
 
 chosen-kept : (key : ℕ → List ℕ) (seen : List (List ℕ)) (ps : List ℕ) → chosen (marksOf seen (map key ps)) ps ≡ keep (λ p. isIn (key p) seen) ps
 unfolding chosen marksOf keep

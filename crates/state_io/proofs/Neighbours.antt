@@ -7,12 +7,14 @@ use mathlib.Core.List.{List, [], _∷_, map, List·Permᴰ, List·Permᴰ·nil, 
 use Rattle.format.specs.Lists.{same, isIn}
 use Rattle.format.proofs.Lists.{same-true, same-refl, same-sym}
 use Rattle.questions.specs.Sets.{all, countDifferent}
+use Rattle.questions.proofs.Sets.{all-both}
 use Rattle.questions.specs.Inputs.{sameType}
 use Rattle.state_index.specs.Keys.{textAt, atMost, sortKey}
 use Rattle.state_index.specs.Sort.{Below, Ordered}
 use Rattle.state_index.proofs.Order.{leq, leq-antisym}
+use Rattle.state_index.proofs.Sorting.{in-perm}
 use Rattle.state_io.specs.Paths.{typeAt, agree, allAgree, agreeNext, neighboursAgree, differNext, countRuns}
-use Rattle.state_io.proofs.Bools.{or-swap, all-ext, all-both, all-perm}
+use Rattle.state_io.proofs.Bools.{all-ext, all-perm}
 use Rattle.state_io.proofs.Types.{type-refl, type-sym, type-trans}
 
 -- ---- a test of pairs
@@ -132,13 +134,6 @@ module _ (s : List ℕ) where
 
   pub runs-different : (ps : List ℕ) → Ordered (atMost 0 s) ps → countRuns s ps ≡ countDifferent (map (textAt s) ps)
   runs-different ps o = runs-ordered ps (in-order ps o)
-
-in-perm : (k : List ℕ) {l r : List (List ℕ)} → List·Permᴰ l r → isIn k l ≡ isIn k r
-unfolding isIn
-in-perm k List·Permᴰ·nil = refl
-in-perm k (List·Permᴰ·cons e p) = rw (e, in-perm k p)
-in-perm k (List·Permᴰ·swap {a = a} {b = b} {l = l} e f) = rw (← e, ← f) (or-swap (same k a) (same k b) (isIn k l))
-in-perm k (List·Permᴰ·trans p q) = in-perm k p ∙ in-perm k q
 
 count-swap : (a b : List ℕ) (ks : List (List ℕ)) → countDifferent (a ∷ (b ∷ ks)) ≡ countDifferent (b ∷ (a ∷ ks))
 unfolding countDifferent isIn

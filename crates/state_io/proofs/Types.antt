@@ -15,7 +15,7 @@ use Rattle.format.specs.Fields.{typeTag, typeClass}
 use Rattle.format.proofs.Lists.{same-true, same-refl}
 use Rattle.questions.specs.Sets.{all, allIn}
 use Rattle.questions.specs.Inputs.{sameType}
-use Rattle.state_io.proofs.Bools.{both-ways}
+use Rattle.questions.proofs.Sets.{both-ways}
 
 -- an enum has a class, no other type has
 class-count : (t : El valueType) → length (typeClass t) ≡ cond (eqb (typeTag t) 4) 1 0

@@ -4,7 +4,6 @@ use state_index::Found;
 use state_index::SortKey;
 use state_index::ahead;
 use state_index::clear;
-use state_index::find;
 use state_index::key_part;
 use state_index::keys::connector_key_end;
 use state_index::sort;
@@ -40,11 +39,10 @@ fn mark_key(
     requires { ⌜ Keyed connectors (now s) (now index) from to marks ⌝ }
     ensures { λ _. ⌜ Meets (now (s .entry)) from to marks (now (key .entry)) (now (index .entry)) (now (index .exit)) ⌝ }
 {
-    let f = find(s, Section::CONNECTORS, index, from, to, key, hint);
+    let f = mark(s, Section::CONNECTORS, index, from, to, marks, key, hint);
     let Found::At(w) = f else {
         return hint;
     };
-    mark(s, Section::CONNECTORS, index, from, to, marks, key, w);
     if from < w { w - 1 } else { w }
 }
 

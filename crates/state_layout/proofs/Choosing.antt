@@ -2,40 +2,77 @@
 use Prim.Native.Nat.{ℕ, zero, suc, _+_, _-_, _≤_, _<_, min}
 use native.Mathlib.Omega.{arith}
 use mathlib.Core.Path.{_≡_, refl, sym, _∙_}
-use mathlib.Core.Bool.{true, false, and-true, or-false}
+use mathlib.Core.Bool.{true, false, cond, and-true, or-false}
 use mathlib.Core.List.{List, [], _∷_}
 use lib.ListN.{length, getD, List·getD-eq-default}
+use lib.Dec.{eqb}
 use borrow.Author.Tests.{eq-eqb, ne-eqb}
 use Rattle.format.specs.Lists.{same, isIn}
 use Rattle.format.specs.Format.{Rule, Fmt, El, done, number, tag, text, _then_, list, choice}
-use Rattle.format.specs.Manifest.{optional, valueType, value}
-use Rattle.format.specs.Fields.{typeTag, typeClass}
+use Rattle.format.specs.Manifest.{optional, valueType, value, enums}
+use Rattle.format.specs.Fields.{Entry, typeTag, typeClass, valueClass}
 use Rattle.format.specs.Places.{numberAt, skip, past}
 use Rattle.format.specs.Values.{valueAt}
 use Rattle.questions.specs.Sets.{all, allIn}
+use Rattle.questions.specs.Declarations.{enumHolds}
 use Rattle.questions.specs.Inputs.{sameType}
 
 -- ---- what the tags of types, values and options choose
-abbrev types : List Fmt
+abbrev pub types : List Fmt
 types = done ∷ done ∷ done ∷ done ∷ text ∷ []
 
-abbrev values : List Fmt
+abbrev pub values : List Fmt
 values = number 8 ∷ number 8 ∷ tag 2 ∷ text ∷ (text then number 4) ∷ []
 
--- the type of a tag, whose class stands at a position
-unfoldable typed : List ℕ → (t p : ℕ) → El valueType
+-- the type of a tag, whose class stands at a position; the value of one
+unfoldable pub typed : List ℕ → (t p : ℕ) → El valueType
 unfolding valueType
 typed s t p = (t, valueAt (getD types t done) s p)
 
--- a type that is no enum has no bytes behind its tag and no class
-plain : (s : List ℕ) (t p : ℕ) → (t ≡ 4 → ⊥) → (getD types t done ≡ done) × (typeClass (typed s t p) ≡ [])
-unfolding typeClass typed valueType
-plain s zero p n = (refl, refl)
-plain s (suc zero) p n = (refl, refl)
-plain s (suc (suc zero)) p n = (refl, refl)
-plain s (suc (suc (suc zero))) p n = (refl, refl)
-plain s (suc (suc (suc (suc zero)))) p n = absurd (n refl)
-plain s (suc (suc (suc (suc (suc t))))) p n = (refl, refl)
+unfoldable pub valued : List ℕ → (t p : ℕ) → El value
+unfolding value
+valued s t p = (t, valueAt (getD values t done) s p)
+
+-- the class: the text at p, where the tag is 4
+abbrev pub classOf : List ℕ → (t p : ℕ) → List (List ℕ)
+classOf s t p = cond (eqb t 4) (valueAt text s p ∷ []) []
+
+module _ (s : List ℕ) where
+  pub typed-class : (t p : ℕ) → typeClass (typed s t p) ≡ classOf s t p
+  unfolding typeClass typed valueType
+  typed-class zero p = refl
+  typed-class (suc zero) p = refl
+  typed-class (suc (suc zero)) p = refl
+  typed-class (suc (suc (suc zero))) p = refl
+  typed-class (suc (suc (suc (suc zero)))) p = refl
+  typed-class (suc (suc (suc (suc (suc t))))) p = rw (ne-eqb (suc (suc (suc (suc (suc t))))) 4 (λ e. omega arith))
+
+  pub valued-class : (t p : ℕ) → valueClass (valued s t p) ≡ classOf s t p
+  unfolding valueClass valued value valueAt
+  valued-class zero p = refl
+  valued-class (suc zero) p = refl
+  valued-class (suc (suc zero)) p = refl
+  valued-class (suc (suc (suc zero))) p = refl
+  valued-class (suc (suc (suc (suc zero)))) p = refl
+  valued-class (suc (suc (suc (suc (suc t))))) p = rw (ne-eqb (suc (suc (suc (suc (suc t))))) 4 (λ e. omega arith))
+
+  pub value-class : (at : ℕ) → valueClass (valueAt value s at) ≡ classOf s (getD s at 0) (min (at + 1) (length s))
+  unfolding valueAt value valued
+  value-class at = valued-class (getD s at 0) (min (at + 1) (length s))
+
+  -- a value that is no enum has none
+  pub no-enum : (at : ℕ) (es : List (Entry enums)) {t : ℕ} → t ≡ getD s at 0 → (t ≡ 4 → ⊥) → true ≡ enumHolds es (valueAt value s at)
+  unfolding enumHolds all
+  no-enum at es {t} e n = rw (value-class at, ← e, ne-eqb t 4 n)
+
+-- a type that is no enum has no bytes behind its tag
+plain : (t : ℕ) → (t ≡ 4 → ⊥) → getD types t done ≡ done
+plain zero n = refl
+plain (suc zero) n = refl
+plain (suc (suc zero)) n = refl
+plain (suc (suc (suc zero))) n = refl
+plain (suc (suc (suc (suc zero)))) n = absurd (n refl)
+plain (suc (suc (suc (suc (suc t))))) n = refl
 
 value-low : (t : ℕ) → t < 2 → getD values t done ≡ number 8
 value-low zero h = refl
@@ -66,7 +103,7 @@ module _ (s : List ℕ) (at : ℕ) {t first : ℕ} (et : t ≡ getD s at 0) (ef 
 
   pub type-other : (t ≡ 4 → ⊥) → first ≡ past valueType s at
   unfolding valueType
-  type-other n = chosen types (plain s t first n .0) (done-past s first)
+  type-other n = chosen types (plain t n) (done-past s first)
 
   pub value-number : t < 2 → {e : ℕ} → e ≡ min (first + 8) (length s) → e ≡ past value s at
   unfolding value past
@@ -124,7 +161,7 @@ module _ (s : List ℕ) where
 
   typed-plain : (t p q : ℕ) → (t ≡ 4 → ⊥) → sameType (typed s t p) (typed s t q) ≡ true
   unfolding sameType typeTag typed valueType allIn all
-  typed-plain t p q n = rw (eq-eqb t t refl, plain s t p n .1)
+  typed-plain t p q n = rw (eq-eqb t t refl, typed-class s t p, ne-eqb t 4 n)
 
   typed-enum : (p q : ℕ) → sameType (typed s 4 p) (typed s 4 q) ≡ same (valueAt text s p) (valueAt text s q)
   unfolding sameType typeTag typeClass typed valueType allIn all isIn

@@ -162,7 +162,14 @@ room-bytes {s} {index} t =
 pub room : {s index : List ℕ} → Tabled s index → roomEnd s ≤ length index
 room {s} {index} t = half (length s) (length index) _ (t .long) (room-bytes t)
 
--- the tables stay where only words behind them change
+-- ---- the tables stay
+pub leaves-all : {s index : List ℕ} → Tabled s index → Leaves s index index
+leaves-all t = record { tabled = t; long = refl }
+
+pub leaves-then : {s a b c : List ℕ} → Leaves s a b → Leaves s b c → Leaves s a c
+leaves-then h k = record { tabled = k .tabled; long = k .long ∙ h .long }
+
+-- where only words behind them change
 pub tabled-kept : {s old new : List ℕ} (a b : ℕ) → Tabled s old → Kept a b old new → roomStart s ≤ a → Leaves s old new
 tabled-kept {s} {old} {new} a b t k h = record {
   tabled = record {

@@ -46,7 +46,7 @@ unfolding allDifferent
 first-apart k keys e = let b = both (not (isIn k keys)) (allDifferent keys) e in (not-true (isIn k keys) (b .0), b .1)
 
 -- ---- marks as a list
-marks-other : (seen keys : List (List ℕ)) (k : List ℕ) → isIn k keys ≡ false → marksOf seen keys ≡ marksOf (k ∷ seen) keys
+pub marks-other : (seen keys : List (List ℕ)) (k : List ℕ) → isIn k keys ≡ false → marksOf seen keys ≡ marksOf (k ∷ seen) keys
 unfolding marksOf isIn
 marks-other seen [] k e = refl
 marks-other seen (x ∷ keys) k e =
@@ -67,7 +67,7 @@ pub mark-read : (seen keys : List (List ℕ)) (w : ℕ) → w < length keys → 
 unfolding marksOf
 mark-read seen keys w h = get-map (λ k. cond (isIn k seen) 1 0) keys w [] 0 h
 
-is-set : (b : Bool) → isSet (cond b 1 0) ≡ b
+pub is-set : (b : Bool) → isSet (cond b 1 0) ≡ b
 unfolding isSet
 is-set true = refl
 is-set false = refl

@@ -21,6 +21,7 @@ module _ {e : Section} {s old : List ℕ} {from to m : ℕ} {key : List ℕ} {f 
   marks-nothing n = record {
     at = λ v i. let z : _≡_ {A = ℕ} 0 1 = cc in absurd (omega arith);
     nothing = r .nothing;
+    same = λ i. refl;
     kept = kept-refl m (m + (to - from)) old;
     next = λ v i seen h. let z : _≡_ {A = ℕ} 0 1 = cc in absurd (omega arith);
   }
@@ -79,6 +80,7 @@ module _ {e : Section} {s old : List ℕ} {from to m : ℕ} {key : List ℕ} {f 
     marks-at = record {
       at = λ v j. let q : w ≡ v = cc in (rw q at least, rw q at most, is-in);
       nothing = λ j. let z : _≡_ {A = ℕ} 0 1 = cc in absurd (omega arith);
+      same = λ j. let z : _≡_ {A = ℕ} 0 1 = cc in absurd (omega arith);
       kept = only;
       next = λ v j. next;
     }

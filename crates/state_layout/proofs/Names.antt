@@ -1,21 +1,20 @@
 -- The keys of a section's entries, as they stand and as they are written.
 use Prim.Native.Nat.{ℕ, suc, _+_, _-_, _≤_, _<_}
 use native.Mathlib.Omega.{arith}
-use mathlib.Core.Path.{_≡_, refl, sym, ap, _∙_, subst}
-use mathlib.Core.Bool.{true, false, not, false≢true}
+use mathlib.Core.Path.{_≡_, refl, ap, _∙_}
+use mathlib.Core.Bool.{true, not}
 use mathlib.Core.List.{List, [], _∷_, map}
 use lib.ListN.{length, getD}
 use Rattle.state.specs.Bytes.{AreBytes, span}
-use Rattle.order.proofs.Laws.{lex-refl}
-use Rattle.format.specs.Lists.{isLess, before}
+use Rattle.format.specs.Lists.{before}
 use Rattle.format.specs.Format.{encode}
 use Rattle.format.specs.Admits.{All, shown}
-use Rattle.format.specs.Pairwise.{Ascending, Different}
+use Rattle.format.specs.Pairwise.{Ascending}
 use Rattle.format.specs.Manifest.{Section, entry, enums, blocks, connectors}
 use Rattle.format.specs.Fields.{Entry, enumPath, blockKeyOf, connectorKeyOf}
 use Rattle.format.specs.Places.{keyAt}
 use Rattle.format.specs.Values.{valueAt, Well}
-use Rattle.format.proofs.Pairwise.{Rises, ascending-iff, different-iff}
+use Rattle.format.proofs.Pairwise.{Rises, ascending-iff, ascending-different, different-iff}
 use Rattle.format.proofs.Values.{well-then, key-written}
 use Rattle.questions.specs.Declarations.{blockNames, connectorNames}
 use Rattle.state_index.specs.Sort.{Below, Ordered}
@@ -45,9 +44,6 @@ module _ (e : Section) (s : List ℕ) where
   ascending-ordered : (ps : List ℕ) → Ascending (map (keyAt e s) ps) → Ordered (keyAtMost e s) ps
   ascending-ordered [] a = tt
   ascending-ordered (p ∷ ps) a = (below-all p ps (λ j l. a 0 (suc j) (omega arith) (omega arith)), ascending-ordered ps (λ i j l k. a (suc i) (suc j) (omega arith) (omega arith)))
-
-pub ascending-different : (ks : List (List ℕ)) → Ascending ks → Different ks
-ascending-different ks a i j l k q = false≢true (sym (ap isLess (lex-refl (getD ks j []))) ∙ subst (λ x. before x (getD ks j []) ≡ true) q (a i j l k))
 
 module _ {e : Section} {s : List ℕ} (index : List ℕ) {vs : List (Entry e)} (bytes : AreBytes s) (rises : Rises (e .rule)) (from to : ℕ) (t : Table e s (span index from to) vs) where
   pub table-ascends : Ascending (map (keyAt e s) (span index from to))

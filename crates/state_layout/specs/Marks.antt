@@ -2,8 +2,8 @@
 use Prim.Native.Nat.{ℕ, zero, suc, _+_, _-_, _≤_, _<_}
 use mathlib.Core.Path.{_≡_}
 use mathlib.Core.Bool.{Bool, true, false, not, cond, _&&_}
-use mathlib.Core.List.{List, [], _∷_, map}
-use lib.ListN.{length, getD}
+use mathlib.Core.List.{List, _∷_, map}
+use lib.ListN.{length}
 use Rattle.state.specs.Bytes.{span}
 use Rattle.format.specs.Lists.{isIn, allDifferent}
 use Rattle.format.specs.Manifest.{Section}
@@ -41,6 +41,7 @@ pub record Marked (e : Section) (s index : List ℕ) (from to marks : ℕ) (seen
 pub record Marks (e : Section) (s : List ℕ) (from to marks : ℕ) (key : List ℕ) (r : Found) (old new : List ℕ) : Type 0 where
   pub at : (w : ℕ) → r ≡ At w → (from ≤ w) × (w < to) × (isIn key (keysAt e s old from to) ≡ true)
   pub nothing : r ≡ Nothing → isIn key (keysAt e s old from to) ≡ false
+  pub same : r ≡ Nothing → new ≡ old
   pub kept : Kept marks (marks + (to - from)) old new
   pub next : (w : ℕ) → r ≡ At w → (seen : List (List ℕ)) → Marked e s old from to marks seen → Marked e s new from to marks (key ∷ seen)
 

@@ -13,6 +13,7 @@ use Rattle.questions.specs.Portability.{targetBoundClasses, portabilityHolds}
 use Rattle.questions.specs.Order.{answers, firstFailing}
 use Rattle.questions.proofs.Chains.{group-no, group-yes}
 use Rattle.state_layout.specs.Tables.{manifestOf, Tabled, Leaves}
+use Rattle.state_layout.proofs.Indexed.{leaves-all, leaves-then}
 
 -- what is left to ask, and of the index
 pub record Asking (s : List ℕ) (revision : ℕ) (old now rest : List ℕ) : Type 0 where
@@ -35,18 +36,15 @@ module _ (revision : ℕ) (m : El manifest) where
 
 asks-all : (revision : ℕ) {s old : List ℕ} → Tabled s old → Asking s revision old old (declarations (manifestOf s) ++ from-references revision (manifestOf s))
 unfolding firstFailing answers
-asks-all revision t = record { is = refl; leaves = record { tabled = t; long = refl } }
+asks-all revision t = record { is = refl; leaves = leaves-all t }
 
 module _ {s old now : List ℕ} {revision : ℕ} (xs ys : List ℕ) (a : Asking s revision old now (xs ++ ys)) {r : ℕ} {new : List ℕ} (e : (r ≡ first xs) × Leaves s now new) where
-  leaves-on : Leaves s old new
-  leaves-on = record { tabled = e .1 .tabled; long = e .1 .long ∙ a .leaves .long }
-
   -- a group that says no ends it; after one that says yes the next is asked
   pub asks-no : (r ≡ 0 → ⊥) → (r ≡ firstFailing targetBoundClasses revision (manifestOf s)) × Leaves s old new
-  asks-no h = (group-no xs ys (e .0) h ∙ sym (a .is), leaves-on)
+  asks-no h = (group-no xs ys (e .0) h ∙ sym (a .is), leaves-then (a .leaves) (e .1))
 
   pub asks-on : r ≡ 0 → Asking s revision old new ys
-  asks-on h = record { is = a .is ∙ group-yes xs ys (e .0) h; leaves = leaves-on }
+  asks-on h = record { is = a .is ∙ group-yes xs ys (e .0) h; leaves = leaves-then (a .leaves) (e .1) }
 
 pub asks-last : {s old now rest : List ℕ} {revision r : ℕ} → Asking s revision old now rest → r ≡ first rest → (r ≡ firstFailing targetBoundClasses revision (manifestOf s)) × Leaves s old now
 asks-last a e = (e ∙ sym (a .is), a .leaves)

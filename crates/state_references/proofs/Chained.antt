@@ -13,9 +13,10 @@ use Rattle.questions.specs.Declarations.{connectorNames}
 use Rattle.questions.specs.References.{joins, scheduleHolds, orderHolds, driversHold, externalsHold, outputsHold, references, boundaries}
 use Rattle.questions.proofs.Chains.{says-yes, says-no}
 use Rattle.state_layout.specs.Tables.{manifestOf, tableStart, tableOf, Tabled, Leaves}
+use Rattle.state_layout.proofs.Indexed.{leaves-all, leaves-then}
 use Rattle.state_references.specs.Known.{holdsAt}
 use Rattle.state_references.specs.Listed.{keysListed, MarksListed}
-use Rattle.state_references.proofs.Placed.{leaves-all, leaves-then, marks-leave, lists-externals}
+use Rattle.state_references.proofs.Placed.{marks-leave, lists-externals}
 use Rattle.state_references.proofs.Answered.{joins-answer, schedule-answer, order-answer, drivers-other, drivers-answer, externals-other, externals-answer, outputs-other, outputs-answer}
 
 -- what a function answered of a question, where it was asked for no

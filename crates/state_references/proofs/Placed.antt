@@ -2,7 +2,7 @@
 use Prim.Native.Nat.{ℕ, suc, _+_, _-_, _≤_}
 use native.Mathlib.Numerals.{add-one}
 use native.Mathlib.Omega.{arith}
-use mathlib.Core.Path.{_≡_, refl, _∙_}
+use mathlib.Core.Path.{_≡_}
 use mathlib.Core.Bool.{Bool, true, false, not}
 use mathlib.Core.List.{List}
 use lib.ListN.{length}
@@ -20,13 +20,6 @@ use Rattle.state_references.specs.Known.{holdsAt}
 use Rattle.state_references.specs.Met.{MarksAll}
 use Rattle.state_references.specs.Listed.{keysListed, Lists, MarksListed}
 use Rattle.state_references.proofs.Meeting.{once-not, once-all}
-
--- ---- the index
-pub leaves-all : {s index : List ℕ} → Tabled s index → Leaves s index index
-leaves-all t = record { tabled = t; long = refl }
-
-pub leaves-then : {s a b c : List ℕ} → Leaves s a b → Leaves s b c → Leaves s a c
-leaves-then h k = record { tabled = k .tabled; long = k .long ∙ h .long }
 
 -- ---- sections with room for marks of their entries
 module _ {s index : List ℕ} (t : Tabled s index) where

@@ -1,7 +1,7 @@
 -- What is asked at the positions of entries that were read is what is asked of their values.
 use Prim.Native.Nat.{ℕ}
-use mathlib.Core.Path.{_≡_, refl, ap, _∙_}
-use mathlib.Core.Bool.{Bool, true, false, _&&_}
+use mathlib.Core.Path.{_≡_, refl, sym, ap, _∙_}
+use mathlib.Core.Bool.{Bool, _&&_}
 use mathlib.Core.List.{List, [], _∷_, map}
 use lib.ListN.{getD}
 use Rattle.state.specs.Bytes.{AreBytes}
@@ -15,6 +15,7 @@ use Rattle.format.specs.Places.{past, keyAt}
 use Rattle.format.specs.Values.{valueAt, Well}
 use Rattle.format.proofs.Values.{well-then, written}
 use Rattle.questions.specs.Sets.{all, allIn}
+use Rattle.questions.proofs.Sets.{all-both, all-map}
 use Rattle.questions.specs.References.{isKnown, isDirected, joins, drives, externalNames}
 use Rattle.state_index.specs.Keys.{textAt}
 use Rattle.state_layout.specs.Tables.{Table}
@@ -72,15 +73,8 @@ table-all e {s} {ps} t f u h = all-values e s f u h ps (t .well) ∙ ap (all u) 
 
 -- of each one thing, and of its key that it is known
 all-known : (f : ℕ → Bool) (k : ℕ → List ℕ) (names : List (List ℕ)) (ps : List ℕ) → (all f ps && allIn (map k ps) names) ≡ all (λ p. f p && isIn (k p) names) ps
-unfolding all allIn
-all-known f k names [] = refl
-all-known f k names (p ∷ ps) = turn (f p) (all f ps) (isIn (k p) names) (allIn (map k ps) names) ∙ ap (λ (b : Bool). (f p && isIn (k p) names) && b) (all-known f k names ps)
-  where
-    turn : (a b c d : Bool) → ((a && b) && (c && d)) ≡ ((a && c) && (b && d))
-    turn false b c d = refl
-    turn true true c d = refl
-    turn true false true d = refl
-    turn true false false d = refl
+unfolding allIn
+all-known f k names ps = sym (all-both f (λ p. isIn (k p) names) ps ∙ rw (all-map (λ l. isIn l names) k ps))
 
 module _ {s : List ℕ} (bytes : AreBytes s) (names : List (List ℕ)) {ps : List ℕ} where
   pub all-join-is : {vs : List (Entry connections)} → Table connections s ps vs → all (holdsAt s names 5) ps ≡ all (joins names) vs

@@ -1,27 +1,20 @@
 -- Keys that ascend are the same set exactly if they are the same list.
 use Prim.Native.Nat.{ℕ, suc, _<_}
 use native.Mathlib.Omega.{arith}
-use mathlib.Core.Path.{_≡_, refl, sym, ap, _∙_, subst}
-use mathlib.Core.Bool.{Bool, true, false, not, cond, _&&_, _||_, true≢false}
+use mathlib.Core.Path.{_≡_, refl, sym, _∙_, subst}
+use mathlib.Core.Bool.{Bool, true, false, cond, _&&_, _||_, true≢false}
 use mathlib.Core.List.{List, [], _∷_, map}
 use lib.ListN.{length, getD}
-use borrow.Author.Tests.{not-true}
 use Rattle.text.proofs.Blocks.{both}
-use Rattle.order.proofs.Laws.{lex-refl}
-use Rattle.format.specs.Lists.{isLess, before, same, isIn}
+use Rattle.format.specs.Lists.{before, same, isIn}
 use Rattle.format.specs.Admits.{All}
 use Rattle.format.specs.Pairwise.{Ascending}
 use Rattle.format.proofs.Lists.{same-true, same-refl, same-apart}
+use Rattle.format.proofs.Pairwise.{before-trans, before-apart}
 use Rattle.questions.specs.Sets.{all, keep, allIn, sameSet}
-use Rattle.state_index.proofs.Order.{leq-total}
+use Rattle.questions.proofs.Sets.{both-ways}
 use Rattle.state_slots.specs.Walk.{sameLists}
 use Rattle.state_slots.proofs.Lists.{all-so, all-of-map, all-to-map, keep-all}
-
--- equal if the one is true just where the other is
-pub alike : (a b : Bool) → (a ≡ true → b ≡ true) → (b ≡ true → a ≡ true) → a ≡ b
-alike true b f g = sym (f refl)
-alike false true f g = g refl
-alike false false f g = refl
 
 -- ---- each key comes before all that follow it
 abbrev pub Ahead : List ℕ → List (List ℕ) → Type 0
@@ -38,12 +31,6 @@ ascends (k ∷ ks) a = (each ks (λ j h. a 0 (suc j) (omega arith) (omega arith)
     each : (ls : List (List ℕ)) → ((j : ℕ) → j < length ls → before k (getD ls j []) ≡ true) → Ahead k ls
     each [] h = tt
     each (l ∷ ls) h = (h 0 (omega arith), each ls (λ j i. h (suc j) (omega arith)))
-
-before-self : (x : List ℕ) → before x x ≡ false
-before-self x = ap isLess (lex-refl x)
-
-pub before-apart : (x y : List ℕ) → before x y ≡ true → x ≡ y → ⊥
-before-apart x y h e = true≢false (sym h ∙ rw (e, before-self y))
 
 -- ---- membership
 -- what is in a list has what each of it has
@@ -101,7 +88,7 @@ heads x y xs ys p q i j = go (same x y) refl
         let d : x ≡ y → ⊥ = λ e. true≢false (sym (subst (λ z. same x z ≡ true) e (same-refl x)) ∙ h) in
         let a : before y x ≡ true = in-all (λ l. before y l ≡ true) x ys (sym (in-cons x y ys d) ∙ i) q in
         let b : before x y ≡ true = in-all (λ l. before x l ≡ true) y xs (sym (in-cons y x xs (λ e. d (sym e))) ∙ j) p in
-        absurd (true≢false (sym b ∙ not-true (before x y) (leq-total x y (ap not a))))
+        absurd (before-apart x x (before-trans x y x b a) refl)
 
 same-if : (xs ys : List (List ℕ)) → Ascends xs → Ascends ys → allIn xs ys ≡ true → allIn ys xs ≡ true → xs ≡ ys
 unfolding allIn all isIn
@@ -129,7 +116,7 @@ same-lists (x ∷ xs) = rw (same-refl x, same-lists xs)
 
 pub same-set : (xs ys : List (List ℕ)) → Ascends xs → Ascends ys → sameLists xs ys ≡ sameSet xs ys
 unfolding sameSet
-same-set xs ys p q = alike (sameLists xs ys) (allIn xs ys && allIn ys xs)
+same-set xs ys p q = both-ways (sameLists xs ys) (allIn xs ys && allIn ys xs)
     (λ h. rw (lists-same xs ys h, all-in-self ys))
     (λ h. let b = both (allIn xs ys) (allIn ys xs) h in rw (same-if xs ys p q (b .0) (b .1)) (same-lists ys))
 

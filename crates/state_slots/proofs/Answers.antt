@@ -1,8 +1,8 @@
--- The first question that says no; what slots and their blocks are where none does.
-use Prim.Native.Nat.{ℕ, zero, suc, _<_}
+-- What slots and their blocks are where no question says no.
+use Prim.Native.Nat.{ℕ, _<_}
 use native.Mathlib.Omega.{arith}
 use mathlib.Core.Path.{_≡_, refl, sym, _∙_}
-use mathlib.Core.Bool.{Bool, true, false, not}
+use mathlib.Core.Bool.{true, not}
 use mathlib.Core.List.{List, [], _∷_, map}
 use lib.Dec.{eqb}
 use borrow.Author.Tests.{eqb-true, eqb-false, ltb-true, not-true}
@@ -14,35 +14,10 @@ use Rattle.format.specs.Admits.{All}
 use Rattle.questions.specs.Sets.{_unless_, first}
 use Rattle.questions.specs.Declarations.{isStateful, kindHolds, blockAnswer, declarations}
 use Rattle.questions.specs.Slots.{slotName, lengthIs, endFits, slotAnswer, words}
+use Rattle.questions.proofs.Chains.{first-one, first-rest, first-none, unless-none, each-none}
 use Rattle.state_slots.specs.Walk.{pairAnswer, pairAnswers, Held}
 use Rattle.state_slots.proofs.Lists.{all-so}
 use Rattle.state_slots.proofs.Named.{blockName, Alone}
-
--- ---- the first that says no
-pub first-one : (q : ℕ) → first (q ∷ []) ≡ q
-unfolding first
-first-one zero = refl
-first-one (suc q) = refl
-
-pub first-rest : (q : ℕ) (qs : List ℕ) → first (q ∷ qs) ≡ first (q ∷ first qs ∷ [])
-unfolding first
-first-rest zero qs = sym (first-one (first qs))
-first-rest (suc q) qs = refl
-
--- none says no
-pub first-none : (q : ℕ) (qs : List ℕ) → first (q ∷ qs) ≡ 0 → (q ≡ 0) × (first qs ≡ 0)
-unfolding first
-first-none zero qs h = (refl, h)
-first-none (suc q) qs h = absurd (omega arith)
-
-pub unless-none : (q : ℕ) (b : Bool) → suc q unless b ≡ 0 → b ≡ true
-unfolding _unless_
-unless-none q true h = refl
-unless-none q false h = absurd (omega arith)
-
-each-none : {A : Type 0} (f : A → ℕ) (xs : List A) → first (map f xs) ≡ 0 → All (λ x. f x ≡ 0) xs
-each-none f [] h = tt
-each-none f (x ∷ xs) h = let p = first-none (f x) (map f xs) h in (p .0, each-none f xs (p .1))
 
 -- ---- 12 says yes: no stateful block has length 0
 kind-holds : (es : List (Entry enums)) (b : Entry blocks) → blockAnswer es b ≡ 0 → kindHolds b ≡ true

@@ -10,7 +10,7 @@ use Rattle.text.proofs.Blocks.{both}
 use Rattle.format.specs.Admits.{All}
 use Rattle.questions.specs.Slots.{insert, byOffset, joinFrom}
 use Rattle.state_slots.proofs.Lists.{all-perm}
-use Rattle.state_slots.proofs.Agree.{alike}
+use Rattle.questions.proofs.Sets.{both-ways}
 
 -- the first of a slot's words, and how many there are
 abbrev Words : Type 0
@@ -120,7 +120,7 @@ joined-apart n (w ∷ ws) p h =
 -- words in order, that are those of l, join just where the sorted l does
 pub joins-in-order : (n : ℕ) {l r : List Words} → List·Permᴰ l r → InOrder r → All Some l → joinFrom n r ≡ joinFrom n (byOffset l)
 joins-in-order n {l = l} {r = r} p o k =
-    alike _ _
+    both-ways _ _
     (λ h. rw (← same (back (Permᴰ·symm p) (joined-apart n r (all-perm Some p k) h))) h)
     (λ h. rw (same (back (Permᴰ·symm (sort-perm l)) (joined-apart n (byOffset l) (all-perm Some (sort-perm l) k) h))) h)
   where

@@ -7,6 +7,7 @@ use mathlib.Core.List.{List, [], _∷_, map, List·Permᴰ, List·Permᴰ·nil, 
 use lib.ListN.{length, drop, set}
 use lib.Seq.{sets, drop-set-lt}
 use Rattle.format.specs.Admits.{All}
+use Rattle.format.proofs.Lists.{alike-each}
 use Rattle.questions.specs.Sets.{keep}
 
 module _ {A : Type 0} where
@@ -47,19 +48,11 @@ module _ {A : Type 0} where
 module _ {A B : Type 0} where
   -- two functions that answer alike over a list do so over those kept of it
   pub keep-alike : (f g : A → B) (t : A → Bool) (xs : List A) → map f xs ≡ map g xs → map f (keep t xs) ≡ map g (keep t xs)
-  keep-alike f g t xs e = one-by-one (keep t xs) (keep-all t (λ x. f x ≡ g x) xs (each xs e))
+  keep-alike f g t xs e = one-by-one (keep t xs) (keep-all t (λ x. f x ≡ g x) xs (alike-each f g xs e))
     where
-      each : (xs : List A) → map f xs ≡ map g xs → All (λ x. f x ≡ g x) xs
-      each [] e = tt
-      each (x ∷ xs) e = (cc, each xs (cc))
-
       one-by-one : (xs : List A) → All (λ x. (f x ≡ g x) × (t x ≡ true)) xs → map f xs ≡ map g xs
       one-by-one [] a = refl
       one-by-one (x ∷ xs) a = rw (a .0 .0, one-by-one xs (a .1))
-
-  pub map-twice : {C : Type 0} (g : B → C) (f : A → B) (xs : List A) → map g (map f xs) ≡ map (λ x. g (f x)) xs
-  map-twice g f [] = refl
-  map-twice g f (x ∷ xs) = ap (_∷_ (g (f x))) (map-twice g f xs)
 
 -- ---- permutations
 pub all-perm : {A : Type 0} (P : A → Type 0) {l r : List A} → List·Permᴰ l r → All P l → All P r
@@ -67,12 +60,6 @@ all-perm P List·Permᴰ·nil h = h
 all-perm P (List·Permᴰ·cons e p) h = (subst P e (h .0), all-perm P p (h .1))
 all-perm P (List·Permᴰ·swap e f) h = (subst P f (h .1 .0), (subst P e (h .0), h .1 .1))
 all-perm P (List·Permᴰ·trans p q) h = all-perm P q (all-perm P p h)
-
-pub perm-map : {A B : Type 0} (f : A → B) {l r : List A} → List·Permᴰ l r → List·Permᴰ (map f l) (map f r)
-perm-map f List·Permᴰ·nil = List·Permᴰ·nil
-perm-map f (List·Permᴰ·cons e p) = List·Permᴰ·cons (ap f e) (perm-map f p)
-perm-map f (List·Permᴰ·swap e g) = List·Permᴰ·swap (ap f e) (ap f g)
-perm-map f (List·Permᴰ·trans p q) = List·Permᴰ·trans (perm-map f p) (perm-map f q)
 
 -- ---- stores
 pub drop-sets : (n k : ℕ) (vs l : List ℕ) → k + length vs ≤ n → drop n (sets l k vs) ≡ drop n l

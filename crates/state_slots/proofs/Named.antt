@@ -10,9 +10,10 @@ use Rattle.format.specs.Manifest.{blocks}
 use Rattle.format.specs.Fields.{Entry, blockKeyOf}
 use Rattle.format.specs.Admits.{All}
 use Rattle.format.proofs.Lists.{same-refl, same-apart}
+use Rattle.format.proofs.Pairwise.{before-apart}
 use Rattle.questions.specs.Sets.{all}
 use Rattle.state_slots.proofs.Lists.{all-both, all-of-map}
-use Rattle.state_slots.proofs.Agree.{Ascends, before-apart}
+use Rattle.state_slots.proofs.Agree.{Ascends}
 
 -- a block's name
 abbrev pub blockName : Entry blocks → List ℕ

@@ -19,11 +19,12 @@ use Rattle.questions.specs.Slots.{words, byOffset, joinFrom}
 use Rattle.state_index.specs.Keys.{atMost}
 use Rattle.state_index.specs.Sort.{Below, Ordered, SortedIn, Kept}
 use Rattle.state_index.proofs.Lists.{take-sets, stored}
+use Rattle.state_index.proofs.Sorting.{perm-map}
 use Rattle.state_index.proofs.Texts.{most-number}
 use Rattle.state_slots.specs.Walk.{slotAt, wordsAt, Ends, Held, Room}
 use Rattle.state_slots.proofs.Parts.{words-at}
 use Rattle.state_layout.proofs.Kept.{span-kept, set-kept}
-use Rattle.state_slots.proofs.Lists.{all-so, all-to-map, all-perm, perm-map, drop-sets}
+use Rattle.state_slots.proofs.Lists.{all-so, all-to-map, all-perm, drop-sets}
 use Rattle.state_slots.proofs.Joining.{Some, InOrder, joins-in-order}
 
 -- a block key ends within the bytes

@@ -12,9 +12,8 @@ use Rattle.format.specs.Manifest.{blocks, stateSlots}
 use Rattle.format.specs.Places.{keyAt}
 use Rattle.questions.specs.Sets.{keep}
 use Rattle.questions.specs.Declarations.{isStateful}
-use Rattle.questions.proofs.Chains.{none-says-no, one-says-no}
+use Rattle.questions.proofs.Chains.{none-says-no, one-says-no, first-one}
 use Rattle.state_slots.specs.Walk.{blockAt, slotAt, statefulOf, NextStateful, sameLists, keysAgree, pairAnswer, pairAnswers, answersAt}
-use Rattle.state_slots.proofs.Answers.{first-one}
 
 -- ---- the next stateful block
 module _ (s index : List ℕ) (i to : ℕ) where

@@ -1,9 +1,9 @@
 -- The answers of the walks are those of the questions, of a manifest that was read and whose declarations hold.
 use Prim.Native.Nat.{ℕ, _+_, _-_, _≤_, _<_}
 use native.Mathlib.Omega.{arith}
-use mathlib.Core.Path.{_≡_, refl, sym, ap, _∙_, subst}
+use mathlib.Core.Path.{_≡_, sym, ap, _∙_, subst}
 use mathlib.Core.Bool.{Bool, true, false}
-use mathlib.Core.List.{List, _∷_, map}
+use mathlib.Core.List.{List, _∷_, map, map-map}
 use lib.ListN.{length}
 use Rattle.state.specs.Bytes.{span}
 use Rattle.format.specs.Format.{late, wire}
@@ -15,21 +15,18 @@ use Rattle.format.proofs.Pairwise.{ascending-iff}
 use Rattle.questions.specs.Sets.{keep, _unless_, first}
 use Rattle.questions.specs.Declarations.{blockNames, isStateful, declarations}
 use Rattle.questions.specs.Slots.{slotName, slotKeysAre, slotAnswer, words, byOffset, joinFrom, slots}
-use Rattle.questions.proofs.Chains.{says-yes, says-no, none-says-no, one-says-no}
+use Rattle.questions.proofs.Chains.{says-yes, says-no, none-says-no, one-says-no, first-one}
 use Rattle.state_index.specs.Sort.{Kept}
 use Rattle.state_layout.specs.Tables.{manifestOf, tableStart, roomStart, Tabled, Table, Leaves}
-use Rattle.state_layout.proofs.Indexed.{table-blocks, table-slots, rows, room, start-there, tabled-kept}
+use Rattle.state_layout.proofs.Indexed.{table-blocks, table-slots, rows, room, start-there, leaves-all, tabled-kept}
 use Rattle.state_layout.proofs.Names.{keys-are, names-blocks}
 use Rattle.state_slots.specs.Walk.{blockAt, slotAt, statefulOf, sameLists, keysAgree, pairAnswers, answersAt, Held, Room}
-use Rattle.state_slots.proofs.Lists.{all-so, all-of-map, keep-all, keep-map, keep-alike, map-twice}
+use Rattle.state_slots.proofs.Lists.{all-so, all-of-map, keep-all, keep-map, keep-alike}
 use Rattle.state_slots.proofs.Agree.{Ascends, ascends, lists-same, same-set, keep-ascends}
 use Rattle.state_slots.proofs.Named.{blockName, Alone, each-alone}
-use Rattle.state_slots.proofs.Answers.{first-one, blocks-some, slot-answers, pairs-none}
+use Rattle.state_slots.proofs.Answers.{blocks-some, slot-answers, pairs-none}
 
 module _ {s index : List ℕ} (t : Tabled s index) where
-  same-tables : Leaves s index index
-  same-tables = record { tabled = t; long = refl }
-
   module _ {from to start stop : ℕ} (ef : from ≡ tableStart 3 (manifestOf s)) (et : to ≡ tableStart 4 (manifestOf s)) (es : start ≡ tableStart 9 (manifestOf s)) (eo : stop ≡ tableStart 10 (manifestOf s)) where
     abbrev bs : List (Entry blocks)
     bs = blocksOf (manifestOf s)
@@ -57,8 +54,8 @@ module _ {s index : List ℕ} (t : Tabled s index) where
     unfolding blockNames
     stateful-keys =
         keep-alike (keyAt blocks s) (λ p. blockName (blockAt s p)) (λ p. isStateful (blockAt s p)) (span index from to)
-        (names-blocks (t .bytes) of-blocks ∙ ap (map blockName) (sym (of-blocks .values)) ∙ map-twice blockName (blockAt s) (span index from to))
-        ∙ sym (map-twice blockName (blockAt s) stateful)
+        (names-blocks (t .bytes) of-blocks ∙ ap (map blockName) (sym (of-blocks .values)) ∙ map-map blockName (blockAt s) (span index from to))
+        ∙ sym (map-map blockName (blockAt s) stateful)
         ∙ ap (map blockName) stateful-values
 
     slot-keys : map (keyAt stateSlots s) (span index start stop) ≡ map slotName ss
@@ -84,7 +81,7 @@ module _ {s index : List ℕ} (t : Tabled s index) where
 
       pub asked-21 : a ≡ false → (21 ≡ first (slots (manifestOf s))) × Leaves s index index
       unfolding slots
-      asked-21 h = (says-no 20 _ (keys-answer ∙ h), same-tables)
+      asked-21 h = (says-no 20 _ (keys-answer ∙ h), leaves-all t)
 
       -- ---- 22 and 23
       module _ (ha : a ≡ true) where
@@ -105,7 +102,7 @@ module _ {s index : List ℕ} (t : Tabled s index) where
 
           pub asked-22 : (r ≡ 0 → ⊥) → (r ≡ first (slots (manifestOf s))) × Leaves s index index
           unfolding slots
-          asked-22 h = (one-says-no _ r h ∙ sym (to-slots _), same-tables)
+          asked-22 h = (one-says-no _ r h ∙ sym (to-slots _), leaves-all t)
 
           -- ---- 24
           module _ (hr : r ≡ 0) (d : first (declarations (manifestOf s)) ≡ 0) where
@@ -125,7 +122,7 @@ module _ {s index : List ℕ} (t : Tabled s index) where
 
               module _ {c : Bool} {new : List ℕ} (ec : c ≡ joinFrom 0 (byOffset (map (λ p. words (slotAt s p)) (span index start stop)))) (k : Kept top (top + (stop - start) + (stop - start)) index new) where
                 joined : joinFrom 0 (byOffset (map words ss)) ≡ c
-                joined = sym (ec ∙ ap (λ l. joinFrom 0 (byOffset l)) (sym (map-twice words (slotAt s) (span index start stop)) ∙ ap (map words) (of-slots .values)))
+                joined = sym (ec ∙ ap (λ l. joinFrom 0 (byOffset l)) (sym (map-map words (slotAt s) (span index start stop)) ∙ ap (map words) (of-slots .values)))
 
                 left : Leaves s index new
                 left = tabled-kept top (top + (stop - start) + (stop - start)) t k (omega arith)

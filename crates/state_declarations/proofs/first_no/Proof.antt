@@ -1,4 +1,5 @@
-use Rattle.state_declarations.proofs.Asking.{words-there, words-below, blocks-well, classes-found, classes-marked, connectors-keyed, members-are, blocks-are, ports-same, classes-same, leaves-all, placed-kept, leaves-again, says-11, says-block, says-15, says-16, says-none}
+use Rattle.state_layout.proofs.Indexed.{leaves-all, leaves-then}
+use Rattle.state_declarations.proofs.Asking.{words-there, words-below, blocks-well, classes-found, classes-marked, connectors-keyed, members-are, blocks-are, ports-same, classes-same, placed-kept, says-11, says-block, says-15, says-16, says-none}
 use borrow.Author.Tests.{not-true, not-false}
 use borrow.Author.Needs.{needs}
 use Rattle.state_declarations.proofs.first_no.Statement.{statement}
@@ -13,7 +14,7 @@ same-length c = search needs
 returns : tie.Need-returns
 returns c =
     let start = c .before .before .before .before .before in
-    (says-11 _ (members-are (start .pre) (c .before .members-there .ensures)) (not-true _ (c .if1 .taken)), leaves-all (start .pre))
+    (says-11 _ (members-are (start .pre) (c .before .members-there .ensures)) (not-true _ (c .if1 .taken)), leaves-all (start .pre .tabled))
 
 blocks-answer-requires : tie.Need-blocks-answer-requires
 blocks-answer-requires c κs = let p = c .before .before .before .before .before .before .pre in (p .tabled .bytes, (classes-found p, (blocks-well p, words-there p .1)))
@@ -29,7 +30,7 @@ returns-2 c =
     let p = start .pre in (
       says-block _ (members-are p (members-there .members-there .ensures)) (not-false _ (if1 .if1 .left)) (blocks-are p (c .before .blocks-answer .ensures))
           (c .if2 .taken),
-      leaves-all p,
+      leaves-all (p .tabled),
     )
 
 ports-are-requires : tie.Need-ports-are-requires
@@ -82,7 +83,7 @@ returns-4 c =
       says-16 _ (members-are p (members-there .members-there .ensures)) (not-false _ (if1 .if1 .left))
           (blocks-are p (blocks-answer .blocks-answer .ensures)) (if2 .if2 .left) (ports-same p (ports-are .ports-are .ensures .0))
           (not-false _ (if3 .if3 .left)) (classes-same (k .0) (classes-are .classes-are .ensures .0)) (not-true _ (c .if4 .taken)),
-      leaves-again (k .1) (l .1),
+      leaves-then (k .1) (l .1),
     )
 
 same-length-5 : tie.Need-same-length-5
@@ -104,7 +105,7 @@ returns-5 c =
       says-none _ (members-are p (members-there .members-there .ensures)) (not-false _ (if1 .if1 .left))
           (blocks-are p (blocks-answer .blocks-answer .ensures)) (if2 .if2 .left) (ports-same p (ports-are .ports-are .ensures .0))
           (not-false _ (if3 .if3 .left)) (classes-same (k .0) (classes-are .classes-are .ensures .0)) (not-false _ (c .if4 .left)),
-      leaves-again (k .1) (l .1),
+      leaves-then (k .1) (l .1),
     )
 
 pub first-no-spec : {M : Type 1} → statement M

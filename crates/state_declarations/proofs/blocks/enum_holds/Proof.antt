@@ -1,4 +1,4 @@
-use Rattle.state_declarations.proofs.Parts.{no-enum}
+use Rattle.state_layout.proofs.Choosing.{no-enum}
 use mathlib.Core.Path.{sym}
 use borrow.Author.Needs.{needs}
 use Rattle.state_declarations.proofs.blocks.enum_holds.Statement.{statement}

@@ -1,0 +1,27 @@
+-- Laws of tests and of the tests of lists.
+use mathlib.Core.Path.{_≡_, refl, sym}
+use mathlib.Core.Bool.{Bool, true, false, _&&_, and-false}
+use mathlib.Core.List.{List, [], _∷_, map}
+use Rattle.questions.specs.Sets.{all}
+
+-- each says yes where the other does
+pub both-ways : (p q : Bool) → (p ≡ true → q ≡ true) → (q ≡ true → p ≡ true) → p ≡ q
+both-ways true q f g = sym (f refl)
+both-ways false true f g = g refl
+both-ways false false f g = refl
+
+module _ {A : Type 0} where
+  pub all-both : (t u : A → Bool) (l : List A) → all (λ x. t x && u x) l ≡ (all t l && all u l)
+  unfolding all
+  all-both t u [] = refl
+  all-both t u (x ∷ l) = go (t x) (u x) (all-both t u l)
+    where
+      go : (p q : Bool) → all (λ x. t x && u x) l ≡ (all t l && all u l) → ((p && q) && all (λ x. t x && u x) l) ≡ ((p && all t l) && (q && all u l))
+      go true true e = e
+      go true false e = sym (and-false (all t l))
+      go false q e = refl
+
+  pub all-map : {B : Type 0} (t : A → Bool) (f : B → A) (l : List B) → all t (map f l) ≡ all (λ x. t (f x)) l
+  unfolding all
+  all-map t f [] = refl
+  all-map t f (x ∷ l) = rw (all-map t f l)
