@@ -61,7 +61,7 @@ pub(crate) fn parameters_at(s: &[u8], at: usize) -> usize
 }
 
 // Question 13 of the value at a position; the words from..to list the classes.
-fn enum_holds(s: &[u8], index: &[u32], from: usize, to: usize, at: usize) -> bool
+fn validate_value_enum(s: &[u8], index: &[u32], from: usize, to: usize, at: usize) -> bool
     requires { ⌜ Keyed enums (now s) (now index) from to to ⌝ }
     ensures { λ r. ⌜ r ≡ enumHolds (classesAt (now (s .entry)) (now (index .entry)) from to) (valueAt value (now (s .entry)) at) ⌝ }
 {
@@ -85,7 +85,7 @@ fn parameters_hold(s: &[u8], index: &[u32], from: usize, to: usize, at: usize) -
     let mut p = ahead(s, list, 4);
     while 0 < left {
         let v = text_end(s, p);
-        if !enum_holds(s, index, from, to, v) {
+        if !validate_value_enum(s, index, from, to, v) {
             return false;
         }
         p = value_end(s, v);

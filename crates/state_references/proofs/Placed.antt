@@ -107,7 +107,7 @@ module _ {section listed : ℕ} {s index : List ℕ} (l : Lists section listed s
       → MarksAll (numbered section) s from to marks (keysAt (numbered section) s index first last) r index new → MarksListed section listed s r index new
   listed-marks c h = rw (a, b, c, d, m, add-one section, add-one listed) at h
 
--- ---- `each_once`
+-- ---- `require_exact_set`
 module _ {section listed : ℕ} {s old new : List ℕ} {r : Bool} (l : Lists section listed s old) (m : MarksListed section listed s r old new) where
   pub marks-leave : Leaves s old new
   marks-leave = tabled-kept _ _ (l .tabled) (m .kept) (omega arith)

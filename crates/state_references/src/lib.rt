@@ -56,7 +56,7 @@ fn all_listed_new(s: &[u8], index: &mut [u32], section: u8, listed: u8) -> bool
 }
 
 // Are they the other section's keys, each once?
-fn each_once(s: &[u8], index: &mut [u32], section: u8, listed: u8) -> bool
+fn require_exact_set(s: &[u8], index: &mut [u32], section: u8, listed: u8) -> bool
     requires { ⌜ Lists section listed (now s) (now index) ⌝ }
     ensures { λ r. ⌜ r ≡ eachOnce (keysListed section listed (now (s .entry)) (now (index .entry))) (keysListed section section (now (s .entry)) (now (index .entry))) ⌝ }
     ensures { λ _. ⌜ Leaves (now (s .entry)) (now (index .entry)) (now (index .exit)) ⌝ }
@@ -90,10 +90,10 @@ pub fn validate_references(s: &[u8], index: &mut [u32]) -> u8
     if !entries_hold(s, index, Section::CONNECTIONS) {
         return 17;
     }
-    if !each_once(s, index, Section::BLOCKS, Section::SCHEDULE) {
+    if !require_exact_set(s, index, Section::BLOCKS, Section::SCHEDULE) {
         return 18;
     }
-    if !each_once(s, index, Section::CONNECTORS, Section::CONNECTOR_ORDER) {
+    if !require_exact_set(s, index, Section::CONNECTORS, Section::CONNECTOR_ORDER) {
         return 19;
     }
     if count_of(s, index, Section::DRIVER_OF) != count_of(s, index, Section::CONNECTORS) {

@@ -17,8 +17,8 @@ returns c =
     let g = eh .before .before .before .before in
     stops-17 (g .pre) (eh .entries-hold .ensures) (c .if1 .taken)
 
-each-once-requires : tie.Need-each-once-requires
-each-once-requires c κs = lists-schedule (c .before .before .before .before .before .before .pre)
+require-exact-set-requires : tie.Need-require-exact-set-requires
+require-exact-set-requires c κs = lists-schedule (c .before .before .before .before .before .before .pre)
 
 same-length-2 : tie.Need-same-length-2
 same-length-2 c = search needs
@@ -29,10 +29,10 @@ returns-2 c =
     let i1 = eo .before .before in
     let eh = i1 .before in
     let g = eh .before .before .before .before in
-    stops-18 (g .pre) (eh .entries-hold .ensures) (i1 .if1 .left) (eo .each-once .ensures) (c .if2 .taken)
+    stops-18 (g .pre) (eh .entries-hold .ensures) (i1 .if1 .left) (eo .require-exact-set .ensures) (c .if2 .taken)
 
-each-once-requires-2 : tie.Need-each-once-requires-2
-each-once-requires-2 c κs = lists-order (c .before .before .before .before .each-once .ensures .1 .tabled)
+require-exact-set-requires-2 : tie.Need-require-exact-set-requires-2
+require-exact-set-requires-2 c κs = lists-order (c .before .before .before .before .require-exact-set .ensures .1 .tabled)
 
 same-length-3 : tie.Need-same-length-3
 same-length-3 c = search needs
@@ -45,13 +45,13 @@ returns-3 c =
     let i1 = eo .before .before in
     let eh = i1 .before in
     let g = eh .before .before .before .before in
-    stops-19 (g .pre) (eh .entries-hold .ensures) (i1 .if1 .left) (eo .each-once .ensures) (i2 .if2 .left) (eo2 .each-once2 .ensures) (c .if3 .taken)
+    stops-19 (g .pre) (eh .entries-hold .ensures) (i1 .if1 .left) (eo .require-exact-set .ensures) (i2 .if2 .left) (eo2 .require-exact-set2 .ensures) (c .if3 .taken)
 
 count-of-requires : tie.Need-count-of-requires
-count-of-requires c κs = (c .before .before .before .before .each-once2 .ensures .1 .tabled, (omega arith, drivers-forward _))
+count-of-requires c κs = (c .before .before .before .before .require-exact-set2 .ensures .1 .tabled, (omega arith, drivers-forward _))
 
 count-of-requires-2 : tie.Need-count-of-requires-2
-count-of-requires-2 c κs = (c .before .before .before .before .before .before .each-once2 .ensures .1 .tabled, (omega arith, connectors-forward _))
+count-of-requires-2 c κs = (c .before .before .before .before .before .before .require-exact-set2 .ensures .1 .tabled, (omega arith, connectors-forward _))
 
 same-length-4 : tie.Need-same-length-4
 same-length-4 c = search needs
@@ -67,7 +67,7 @@ returns-4 c =
     let i1 = eo .before .before in
     let eh = i1 .before in
     let g = eh .before .before .before .before in
-    stops-counted (g .pre) (eh .entries-hold .ensures) (i1 .if1 .left) (eo .each-once .ensures) (i2 .if2 .left) (eo2 .each-once2 .ensures)
+    stops-counted (g .pre) (eh .entries-hold .ensures) (i1 .if1 .left) (eo .require-exact-set .ensures) (i2 .if2 .left) (eo2 .require-exact-set2 .ensures)
     (i3 .if3 .left) (co .count-of .ensures) (co2 .count-of2 .ensures) (c .if4 .taken)
 
 entries-hold-requires-2 : tie.Need-entries-hold-requires-2
@@ -89,7 +89,7 @@ returns-5 c =
     let i1 = eo .before .before in
     let eh = i1 .before in
     let g = eh .before .before .before .before in
-    stops-20 (g .pre) (eh .entries-hold .ensures) (i1 .if1 .left) (eo .each-once .ensures) (i2 .if2 .left) (eo2 .each-once2 .ensures)
+    stops-20 (g .pre) (eh .entries-hold .ensures) (i1 .if1 .left) (eo .require-exact-set .ensures) (i2 .if2 .left) (eo2 .require-exact-set2 .ensures)
     (i3 .if3 .left) (co .count-of .ensures) (co2 .count-of2 .ensures) (i4 .if4 .left) (eh2 .entries-hold2 .ensures) (c .if5 .taken)
 
 same-length-6 : tie.Need-same-length-6
@@ -108,7 +108,7 @@ returns-6 c =
     let i1 = eo .before .before in
     let eh = i1 .before in
     let g = eh .before .before .before .before in
-    passes-20 (g .pre) (eh .entries-hold .ensures) (i1 .if1 .left) (eo .each-once .ensures) (i2 .if2 .left) (eo2 .each-once2 .ensures)
+    passes-20 (g .pre) (eh .entries-hold .ensures) (i1 .if1 .left) (eo .require-exact-set .ensures) (i2 .if2 .left) (eo2 .require-exact-set2 .ensures)
     (i3 .if3 .left) (co .count-of .ensures) (co2 .count-of2 .ensures) (i4 .if4 .left) (eh2 .entries-hold2 .ensures) (c .if5 .left)
 
 pub validate-references-spec : {M : Type 1} → statement M
@@ -118,10 +118,10 @@ validate-references-spec =
     entries-hold-requires
     same-length
     returns
-    each-once-requires
+    require-exact-set-requires
     same-length-2
     returns-2
-    each-once-requires-2
+    require-exact-set-requires-2
     same-length-3
     returns-3
     count-of-requires

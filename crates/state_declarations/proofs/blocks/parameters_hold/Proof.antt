@@ -33,8 +33,8 @@ loop-holds c = params-start _ _ _ (c .before .before .parameters-at .ensures) (c
 text-end-requires : tie.Need-text-end-requires Inv-loop μ-loop
 text-end-requires c κs = search needs
 
-enum-holds-requires : tie.Need-enum-holds-requires Inv-loop μ-loop
-enum-holds-requires c κs = c .before .before .before .before .before .before .before .before .pre
+validate-value-enum-requires : tie.Need-validate-value-enum-requires Inv-loop μ-loop
+validate-value-enum-requires c κs = c .before .before .before .before .before .before .before .before .pre
 
 returns : tie.Need-returns Inv-loop μ-loop
 returns c =
@@ -42,7 +42,7 @@ returns c =
     let loop-test = text-end .before in
     let loop = loop-test .before in
     all-no (passes _) (entries-next text value _ _ _ (loop-test .loop-test .taken) (text-end .text-end .ensures) refl)
-    (sym (c .before .enum-holds .ensures) ∙ not-true _ (c .if1 .taken)) (loop .loop .inv)
+    (sym (c .before .validate-value-enum .ensures) ∙ not-true _ (c .if1 .taken)) (loop .loop .inv)
 
 value-end-requires : tie.Need-value-end-requires Inv-loop μ-loop
 value-end-requires c κs = search needs
@@ -55,12 +55,12 @@ loop-less c = search needs
 
 loop-again : tie.Need-loop-again Inv-loop μ-loop
 loop-again c =
-    let enum-holds = c .before .before in
-    let text-end = enum-holds .before in
+    let validate-value-enum = c .before .before in
+    let text-end = validate-value-enum .before in
     let loop-test = text-end .before in
     let loop = loop-test .before in
     all-next (passes _) (entries-next text value _ _ _ (loop-test .loop-test .taken) (text-end .text-end .ensures) (c .value-end .ensures))
-    (sym (enum-holds .enum-holds .ensures) ∙ not-false _ (c .before .if1 .left)) (loop .loop .inv)
+    (sym (validate-value-enum .validate-value-enum .ensures) ∙ not-false _ (c .before .if1 .left)) (loop .loop .inv)
 
 returns-2 : tie.Need-returns-2 Inv-loop μ-loop
 returns-2 c = all-end (passes _) (entries-end text value _ _ _ (c .loop-test .left)) (c .before .loop .inv)
@@ -76,7 +76,7 @@ parameters-hold-spec =
     ahead-requires
     loop-holds
     text-end-requires
-    enum-holds-requires
+    validate-value-enum-requires
     returns
     value-end-requires
     sub-left

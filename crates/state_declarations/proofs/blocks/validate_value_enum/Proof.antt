@@ -1,8 +1,8 @@
 use Rattle.state_layout.proofs.Choosing.{no-enum}
 use mathlib.Core.Path.{sym}
 use borrow.Author.Needs.{needs}
-use Rattle.state_declarations.proofs.blocks.enum_holds.Statement.{statement}
-use Rattle.state_declarations.proofs.blocks.enum_holds.Tie as tie
+use Rattle.state_declarations.proofs.blocks.validate_value_enum.Statement.{statement}
+use Rattle.state_declarations.proofs.blocks.validate_value_enum.Tie as tie
 
 byte-at-requires : tie.Need-byte-at-requires
 byte-at-requires c κs = search needs
@@ -25,8 +25,8 @@ returns-2 c = sym (c .before .before .find-class .ensures .nothing (c .enum-told
 returns-3 : tie.Need-returns-3
 returns-3 c = sym (c .before .before .find-class .ensures .at _ (c .enum-told .given .1) .3)
 
-pub enum-holds-spec : {M : Type 1} → statement M
-enum-holds-spec =
+pub validate-value-enum-spec : {M : Type 1} → statement M
+validate-value-enum-spec =
     tie.close
     (tie.spec
     byte-at-requires

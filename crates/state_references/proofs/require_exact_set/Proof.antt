@@ -1,8 +1,8 @@
 use Rattle.state_references.proofs.Placed.{marks-leave, each-not, each-all}
 use native.Mathlib.Omega.{arith}
 use borrow.Author.Needs.{needs}
-use Rattle.state_references.proofs.each_once.Statement.{statement}
-use Rattle.state_references.proofs.each_once.Tie as tie
+use Rattle.state_references.proofs.require_exact_set.Statement.{statement}
+use Rattle.state_references.proofs.require_exact_set.Tie as tie
 
 all-listed-new-requires : tie.Need-all-listed-new-requires
 all-listed-new-requires c κs = search needs
@@ -46,8 +46,8 @@ returns-2 c =
     let g = aln .before .before .before .before in
     each-all (g .pre) (aln .all-listed-new .ensures) (i1 .if1 .left) (ts .table-start .ensures) (co .count-of .ensures) (c .all-marked .ensures)
 
-pub each-once-spec : {M : Type 1} → statement M
-each-once-spec =
+pub require-exact-set-spec : {M : Type 1} → statement M
+require-exact-set-spec =
     tie.close
     (tie.spec
     all-listed-new-requires
