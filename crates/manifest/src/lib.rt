@@ -6,37 +6,28 @@ use state::Step;
 use state_index::clear;
 use state_manifest_codec::read_manifest;
 use state_manifest_validation::validate_manifest;
+use state_wire::offset;
 ghost use mathlib.Core.Path.{_≡_};
 ghost use mathlib.Core.Bool.{cond};
 ghost use mathlib.Core.List.{_++_};
 ghost use Prim.Native.Nat.{_-_, _≤_};
 ghost use lib.Dec.{eqb};
 ghost use lib.ListN.{length, take, replicate};
-ghost use Rattle.state.specs.Outcome.{offsetOf};
 ghost use Rattle.questions.specs.Portability.{targetBoundClasses};
 ghost use Rattle.questions.specs.Answers.{offsetAt, startsOf, refusal, acceptance, decodeManifest, decodedIndex};
 ghost use Rattle.manifest.specs.Judges.{Judges};
 
-// base + position, or the largest number.
-fn offset_of(base: u64, position: usize) -> u64
-    ensures { λ r. ⌜ r ≡ offsetOf base position ⌝ }
-{
-    let p = position as u64;
-    if 18446744073709551615 - base < p {
-        return 18446744073709551615;
-    }
-    base + p
-}
-
+// Where a refusal stands outside: questions 1 and 2 at 0, the others from the base on.
 fn offset_at(base: u64, question: u8, position: usize) -> u64
     ensures { λ r. ⌜ r ≡ offsetAt base question position ⌝ }
 {
     if question <= 2 {
         return 0;
     }
-    offset_of(base, position)
+    offset(base, position)
 }
 
+// The first twelve words in one record.
 fn starts_of(index: &[u32]) -> Starts
     requires { ⌜ 12 ≤ length (now index) ⌝ }
     ensures { λ r. ⌜ r ≡ startsOf (take 12 (now (index .entry))) ⌝ }
@@ -101,7 +92,7 @@ fn judge(s: &[u8], revision: u32, index: &mut [u32]) -> Step
     Step::Next(n)
 }
 
-// Reads a manifest and asks all questions about it; `index` has at least n ÷ 2 + 16 words.
+// Reads a manifest and asks all questions about it. An index of fewer than n ÷ 2 + 16 words is question 2.
 pub fn decode_manifest(bytes: &[u8], base: u64, revision: u32, index: &mut [u32]) -> Decoded
     ensures { λ r. ⌜ r ≡ decodeManifest targetBoundClasses (now (bytes .entry)) base revision (now (index .entry)) ⌝ }
     ensures { λ _. ⌜ now (index .exit) ≡ decodedIndex targetBoundClasses (now (bytes .entry)) revision (now (index .entry)) ⌝ }

@@ -33,6 +33,7 @@ pub record Keyed (e : Section) (s index : List ℕ) (from to marks : ℕ) : Type
 unfoldable pub marksOf : (seen keys : List (List ℕ)) → List ℕ
 marksOf seen keys = map (λ k. cond (isIn k seen) 1 0) keys
 
+-- an index whose words from `marks` on are those marks
 pub record Marked (e : Section) (s index : List ℕ) (from to marks : ℕ) (seen : List (List ℕ)) : Type 0 where
   pub keyed : Keyed e s index from to marks
   pub set : span index marks (marks + (to - from)) ≡ marksOf seen (keysAt e s index from to)
