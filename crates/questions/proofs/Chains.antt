@@ -57,6 +57,10 @@ unfolding first
 first-none zero qs h = (refl, h)
 first-none (suc q) qs h = absurd (omega arith)
 
+-- in either of two groups
+pub groups-none : (xs ys : List ℕ) → first (xs ++ ys) ≡ 0 → (first xs ≡ 0) × (first ys ≡ 0)
+groups-none xs ys h = first-none (first xs) ys (sym (first-append xs ys) ∙ h)
+
 pub unless-none : (q : ℕ) (b : Bool) → suc q unless b ≡ 0 → b ≡ true
 unfolding _unless_
 unless-none q true h = refl

@@ -1,15 +1,13 @@
 -- Refusals of the Rust that cannot arise: document 01, "`unknown external input`, `connector occurs in multiple block port lists` .. can't arise
 -- after these questions; that is proved"; and its test that a manifest is written in the one way that there is.
-use Prim.Native.Nat.{ℕ, zero, suc}
-use mathlib.Core.Path.{_≡_, refl, subst}
+use Prim.Native.Nat.{ℕ}
+use mathlib.Core.Path.{_≡_, refl}
 use mathlib.Core.Bool.{Bool, true}
 use mathlib.Core.List.{List, [], _∷_}
-use lib.ListN.{length}
-use lib.Dec.{leb, eqb}
+use lib.Dec.{eqb}
 use Rattle.text.proofs.Blocks.{both}
 use Rattle.state.specs.Bytes.{AreBytes}
 use Rattle.state.specs.Outcome.{got}
-use Rattle.state.proofs.Outcome.{Yields, this, nothing, yielded, yields-ask, yields-bind, yields-so}
 use Rattle.state_wire.specs.Fields.{maxSnapshotBytes}
 use Rattle.format.specs.Lists.{allDifferent}
 use Rattle.format.specs.Format.{late, wire, El, encode}
@@ -17,16 +15,13 @@ use Rattle.format.specs.Admits.{All, Holds}
 use Rattle.format.specs.Keys.{blockKey, direction}
 use Rattle.format.specs.Manifest.{counted, connectorKeys, blockRest, enums, blocks, manifest}
 use Rattle.format.specs.Fields.{Entry, enumsOf, blocksOf, connectorsOf, externalInputsOf, externalInput, blockKeyOf, inputs, outputs}
-use Rattle.format.specs.Reading.{indexWords, readManifest, readSections}
 use Rattle.format.proofs.Pairwise.{ascending-iff, ascending-different, different-iff}
-use Rattle.format.proofs.Canonical.{canonical}
-use Rattle.format.proofs.Values.{self}
 use Rattle.questions.specs.Sets.{all, gather, first}
 use Rattle.questions.specs.Declarations.{blockNames, connectorNames, blockAnswer, blockPorts, declarations}
 use Rattle.questions.specs.References.{isKnown, isDirected, externalsHold, boundaries}
-use Rattle.questions.specs.Order.{firstFailing}
-use Rattle.questions.specs.Answers.{judged, judge}
+use Rattle.questions.specs.Answers.{judge}
 use Rattle.questions.proofs.Chains.{first-none, unless-none, each-none}
+use Rattle.questions.proofs.Accepted.{passed-canonical, judge-tells}
 use Rattle.questions.proofs.Ports.{AllAdmitted, Passes, blocks-differ}
 
 -- ---- 'unknown external input'
@@ -73,19 +68,6 @@ ports-once m h e =
 
 -- ---- 'manifest has a non-canonical encoding'
 module _ (bound : List (List ℕ)) (revision : ℕ) (s : List ℕ) (w : ℕ) (bytes : AreBytes s) where
-  yields-judged : (q : ℕ) (m : El manifest) (n : ℕ) {P : El manifest → ℕ → Type 0} → P m n → Yields P (judged q m n)
-  yields-judged zero m n p = this p
-  yields-judged (suc q) m n p = nothing
-
-  yields-canonical : Yields (λ m n. (n ≡ length s) × (encode manifest m ≡ s) × Holds maxSnapshotBytes manifest m) (judge bound revision s w)
-  unfolding judge readManifest
-  yields-canonical =
-      yields-bind (
-      yields-ask (leb (length s) maxSnapshotBytes) 1 0 λ _.
-      yields-ask (leb (indexWords (length s)) w) 2 0 λ _.
-      yields-so (self (readSections maxSnapshotBytes s)) λ m n e. canonical maxSnapshotBytes s bytes e) λ m n p.
-      yields-judged (firstFailing bound revision m) m n p
-
   -- an accepted manifest is its bytes as they would be written again
   pub written-again : {m : El manifest} {n : ℕ} → judge bound revision s w ≡ got m n → encode manifest m ≡ s
-  written-again e = yielded (subst (Yields _) e yields-canonical) .1
+  written-again e = passed-canonical s w bytes (judge-tells bound revision s w e .passed) .0

@@ -15,10 +15,11 @@ use Rattle.format.specs.Least.{honest}
 use Rattle.format.specs.Keys.{blockKey, connectorKey, owner, direction, portIndex}
 use Rattle.format.specs.Manifest.{connectorKeys, blocks}
 use Rattle.format.specs.Fields.{Entry, blockKeyOf, inputs, outputs}
-use Rattle.format.proofs.Lists.{same-true, same-refl, in-append}
+use Rattle.format.proofs.Lists.{same-true, in-append}
 use Rattle.format.proofs.Complete.{unambiguous}
 use Rattle.questions.specs.Sets.{gather}
 use Rattle.questions.specs.Declarations.{blockNames, portHolds, portsHold, portNames, blockPorts}
+use Rattle.questions.proofs.Sets.{in-front, in-rest}
 
 -- ---- what a port is by its name
 key-honest : honest connectorKey ≡ true
@@ -59,18 +60,6 @@ not-in k ks h = go (isIn k ks) refl
     go : (b : Bool) → isIn k ks ≡ b → b ≡ false
     go true e = absurd (h e)
     go false e = refl
-
-in-front : (k : List ℕ) (ks : List (List ℕ)) → isIn k (k ∷ ks) ≡ true
-unfolding isIn
-in-front k ks = rw (same-refl k)
-
-in-rest : (k l : List ℕ) (ks : List (List ℕ)) → isIn k ks ≡ true → isIn k (l ∷ ks) ≡ true
-unfolding isIn
-in-rest k l ks e = go (same k l)
-  where
-    go : (b : Bool) → (b || isIn k ks) ≡ true
-    go true = refl
-    go false = e
 
 -- a name in a list is the first or in the rest; in one list or the other
 module _ {P : Type 0} (k : List ℕ) where

@@ -1,7 +1,10 @@
 -- Laws of tests and of the tests of lists.
+use Prim.Native.Nat.{ℕ}
 use mathlib.Core.Path.{_≡_, refl, sym}
-use mathlib.Core.Bool.{Bool, true, false, _&&_, and-false}
+use mathlib.Core.Bool.{Bool, true, false, _&&_, _||_, and-false}
 use mathlib.Core.List.{List, [], _∷_, map}
+use Rattle.format.specs.Lists.{same, isIn}
+use Rattle.format.proofs.Lists.{same-refl}
 use Rattle.questions.specs.Sets.{all}
 
 -- each says yes where the other does
@@ -25,3 +28,17 @@ module _ {A : Type 0} where
   unfolding all
   all-map t f [] = refl
   all-map t f (x ∷ l) = rw (all-map t f l)
+
+-- ---- membership
+-- a list has its first, and what is in the rest of it
+pub in-front : (k : List ℕ) (ks : List (List ℕ)) → isIn k (k ∷ ks) ≡ true
+unfolding isIn
+in-front k ks = rw (same-refl k)
+
+pub in-rest : (k l : List ℕ) (ks : List (List ℕ)) → isIn k ks ≡ true → isIn k (l ∷ ks) ≡ true
+unfolding isIn
+in-rest k l ks e = go (same k l)
+  where
+    go : (b : Bool) → (b || isIn k ks) ≡ true
+    go true = refl
+    go false = e

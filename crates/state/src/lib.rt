@@ -38,6 +38,49 @@ pub enum Units {
     Refused(u8, u64),
 }
 
+// What a call on a snapshot's manifest and a target's answers: nothing differs; or section, part, entry place and inner place of the first
+// difference; or the refusal of one of the two.
+pub enum Verdict {
+    Compatible,
+    Differs(u8, u8, usize, usize),
+    SnapshotRefused(u8, u64),
+    TargetRefused(u8, u64),
+}
+
+// The parts of a verdict.
+pub struct Part(pub u8);
+
+impl Part {
+    // A whole entry, or a whole section.
+    pub const WHOLE: u8 = 0;
+
+    pub const KEY: u8 = 1;
+
+    pub const CLASS: u8 = 2;
+
+    pub const KIND: u8 = 3;
+
+    pub const REVISION: u8 = 4;
+
+    pub const STATE_LENGTH: u8 = 5;
+
+    pub const PARAMETER_NAME: u8 = 6;
+
+    pub const PARAMETER_VALUE: u8 = 7;
+
+    pub const PARAMETER_COUNT: u8 = 8;
+
+    pub const INPUT: u8 = 9;
+
+    pub const INPUT_COUNT: u8 = 10;
+
+    pub const OUTPUT: u8 = 11;
+
+    pub const OUTPUT_COUNT: u8 = 12;
+
+    pub const ENTRY_COUNT: u8 = 13;
+}
+
 // The section numbers.
 pub struct Section(pub u8);
 

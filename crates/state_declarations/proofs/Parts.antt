@@ -62,10 +62,6 @@ module _ (s : List ℕ) where
     pub algebraic : (t ≡ 1 → ⊥) → n ≡ 0 → {m : ℕ} → m ≡ numberAt 8 s l → eqb m 0 ≡ kindHolds (valueAt (entry blocks) s at)
     algebraic h i j = sym (kind-is ∙ rw (ne-eqb t 1 h, eq-eqb n 0 i, ← j))
 
-  pub head-past : (at : ℕ) {k r l e : ℕ} → k ≡ past text s (past blockKey s at) → r ≡ min (k + 1) (length s) → l ≡ min (r + 4) (length s) → e ≡ min (l + 8) (length s) → e ≡ past blockHead s (past blockKey s at)
-  unfolding blockHead past
-  head-past at i j k l = rw (l, k, j, i)
-
   pub key-at : (at : ℕ) → blockKeyOf (valueAt (entry blocks) s at) ≡ valueAt blockKey s at
   unfolding blockKeyOf valueAt
   key-at at = refl

@@ -14,6 +14,7 @@ use state_index::word_at;
 use state_key_order::same_bytes;
 use state_layout::ends::block_kind_at;
 use state_layout::ends::connector_keys_end;
+use state_layout::ends::parameters_at;
 use state_layout::ends::parameters_end;
 use state_layout::ends::value_end;
 use state_layout::find_class;
@@ -26,8 +27,7 @@ ghost use Rattle.state.specs.Bytes.{AreBytes, span};
 ghost use Rattle.state_wire.specs.Fields.{maxSnapshotBytes};
 ghost use Rattle.format.specs.Keys.{blockKey, connectorKey};
 ghost use Rattle.format.specs.Admits.{All};
-ghost use Rattle.format.specs.Manifest.{value, connectorKeys, blockHead, entry, enums, blocks};
-ghost use Rattle.format.specs.Places.{past};
+ghost use Rattle.format.specs.Manifest.{value, connectorKeys, entry, enums, blocks};
 ghost use Rattle.format.specs.Values.{valueAt, Well};
 ghost use Rattle.questions.specs.Sets.{first};
 ghost use Rattle.questions.specs.Declarations.{kindHolds, enumHolds, paramsHold, portHolds, portsHold, blockAnswer};
@@ -51,13 +51,6 @@ fn kind_holds(s: &[u8], at: usize) -> bool
         return false;
     }
     number_at(s, length) == 0
-}
-
-// Where the parameters of the block at a position stand.
-pub(crate) fn parameters_at(s: &[u8], at: usize) -> usize
-    ensures { λ r. ⌜ r ≡ past blockHead (now (s .entry)) (past blockKey (now (s .entry)) at) ⌝ }
-{
-    ahead(s, ahead(s, ahead(s, block_kind_at(s, at), 1), 4), 8)
 }
 
 // Question 13 of the value at a position; the words from..to list the classes.

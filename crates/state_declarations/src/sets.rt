@@ -1,5 +1,4 @@
 // Questions 15 and 16: what is listed is what is named. Each name's mark is set behind the tables, and then none may be left unset.
-use super::blocks::parameters_at;
 use state::Section;
 use state::WireValueType;
 use state_index::Found;
@@ -13,6 +12,7 @@ use state_index::text_part;
 use state_index::word_at;
 use state_layout::ends::connector_keys_end;
 use state_layout::ends::connector_type_at;
+use state_layout::ends::parameters_at;
 use state_layout::ends::parameters_end;
 use state_layout::ends::value_end;
 use state_layout::marks::all_marked;

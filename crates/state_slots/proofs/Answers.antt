@@ -13,11 +13,11 @@ use Rattle.format.specs.Fields.{Entry, enumsOf, blocksOf, stateRevision, stateL
 use Rattle.format.specs.Admits.{All}
 use Rattle.questions.specs.Sets.{_unless_, first}
 use Rattle.questions.specs.Declarations.{isStateful, kindHolds, blockAnswer, declarations}
-use Rattle.questions.specs.Slots.{slotName, lengthIs, endFits, slotAnswer, words}
+use Rattle.questions.specs.Slots.{slotName, endFits, slotAnswer, words}
 use Rattle.questions.proofs.Chains.{first-one, first-rest, first-none, unless-none, each-none}
+use Rattle.questions.proofs.Kept.{all-so}
+use Rattle.questions.proofs.Named.{blockName, Alone, length-is}
 use Rattle.state_slots.specs.Walk.{pairAnswer, pairAnswers, Held}
-use Rattle.state_slots.proofs.Lists.{all-so}
-use Rattle.state_slots.proofs.Named.{blockName, Alone}
 
 -- ---- 12 says yes: no stateful block has length 0
 kind-holds : (es : List (Entry enums)) (b : Entry blocks) → blockAnswer es b ≡ 0 → kindHolds b ≡ true
@@ -40,10 +40,6 @@ pub blocks-some : (m : El manifest) → first (declarations m) ≡ 0 → All (λ
 blocks-some m h = all-so stateful-some (blocksOf m) (kinds-hold m h)
 
 -- ---- 22 and 23 of slots that name these blocks, each alone of its name
-length-is : (bs : List (Entry blocks)) (b : Entry blocks) (e : Entry stateSlots) → Alone blockName bs b → slotName e ≡ blockName b → lengthIs bs e ≡ eqb (slotLength e) (stateLen b)
-unfolding lengthIs
-length-is bs b e a h = rw h (a (λ x. eqb (slotLength e) (stateLen x)))
-
 pub slot-answers : (bs ks : List (Entry blocks)) (es : List (Entry stateSlots)) → All (Alone blockName bs) ks → map slotName es ≡ map blockName ks
     → first (map (slotAnswer bs) es) ≡ pairAnswers ks es
 unfolding pairAnswers pairAnswer slotAnswer first

@@ -2,15 +2,16 @@
 use Prim.Native.Nat.{ℕ, _+_, _≤_, _<_}
 use native.Mathlib.Omega.{arith}
 use mathlib.Core.Path.{_≡_, refl, sym, ap, _∙_, subst}
-use mathlib.Core.Bool.{Bool, true, false, cond}
-use mathlib.Core.List.{List, [], _∷_, List·Permᴰ, List·Permᴰ·nil, List·Permᴰ·cons, List·Permᴰ·swap, List·Permᴰ·trans, Permᴰ·refl, Permᴰ·symm}
+use mathlib.Core.Bool.{Bool, true, false}
+use mathlib.Core.List.{List, [], _∷_, List·Permᴰ, List·Permᴰ·nil, List·Permᴰ·cons, List·Permᴰ·swap, List·Permᴰ·trans, Permᴰ·symm}
 use lib.Dec.{leb, eqb}
 use borrow.Author.Tests.{eqb-true, leb-true, le-leb, leb-false, lt-leb}
 use Rattle.text.proofs.Blocks.{both}
 use Rattle.format.specs.Admits.{All}
 use Rattle.questions.specs.Slots.{insert, byOffset, joinFrom}
-use Rattle.state_slots.proofs.Lists.{all-perm}
 use Rattle.questions.proofs.Sets.{both-ways}
+use Rattle.questions.proofs.Kept.{all-perm}
+use Rattle.questions.proofs.Sorted.{sort-perm}
 
 -- the first of a slot's words, and how many there are
 abbrev Words : Type 0
@@ -39,21 +40,7 @@ pairs-perm R s (List·Permᴰ·swap {a = a} {b = b} {a′ = a′} {b′ = b′} 
     subst (λ x. Pairs R (x ∷ (b′ ∷ l))) f (subst (λ x. Pairs R (b ∷ (x ∷ l))) e ((s a b (h .0 .0), h .1 .0), (h .0 .1, h .1 .1)))
 pairs-perm R s (List·Permᴰ·trans p q) h = pairs-perm R s q (pairs-perm R s p h)
 
--- ---- a sort is a permutation, and leaves words in order as they are
-insert-perm : (w : Words) (ws : List Words) → List·Permᴰ (w ∷ ws) (insert w ws)
-unfolding insert
-insert-perm w [] = Permᴰ·refl (w ∷ [])
-insert-perm w (x ∷ ws) = go (notAfter w x) (insert-perm w ws)
-  where
-    go : (u : Bool) → List·Permᴰ (w ∷ ws) (insert w ws) → List·Permᴰ (w ∷ (x ∷ ws)) (cond u (w ∷ (x ∷ ws)) (x ∷ insert w ws))
-    go true ih = Permᴰ·refl (w ∷ (x ∷ ws))
-    go false ih = List·Permᴰ·trans (List·Permᴰ·swap refl refl) (List·Permᴰ·cons refl ih)
-
-sort-perm : (ws : List Words) → List·Permᴰ ws (byOffset ws)
-unfolding byOffset
-sort-perm [] = List·Permᴰ·nil
-sort-perm (w ∷ ws) = List·Permᴰ·trans (List·Permᴰ·cons refl (sort-perm ws)) (insert-perm w (byOffset ws))
-
+-- ---- a sort leaves words in order as they are
 insert-first : (w : Words) (ws : List Words) → All (λ x. notAfter w x ≡ true) ws → insert w ws ≡ w ∷ ws
 unfolding insert
 insert-first w [] h = refl

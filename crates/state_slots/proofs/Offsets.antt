@@ -16,6 +16,7 @@ use Rattle.format.specs.Keys.{blockKey}
 use Rattle.format.specs.Admits.{All}
 use Rattle.format.specs.Places.{numberAt, past}
 use Rattle.questions.specs.Slots.{words, byOffset, joinFrom}
+use Rattle.questions.proofs.Kept.{all-so, all-to-map, all-perm}
 use Rattle.state_index.specs.Keys.{atMost}
 use Rattle.state_index.specs.Sort.{Below, Ordered, SortedIn, Kept}
 use Rattle.state_index.proofs.Lists.{take-sets, stored}
@@ -24,7 +25,7 @@ use Rattle.state_index.proofs.Texts.{most-number}
 use Rattle.state_slots.specs.Walk.{slotAt, wordsAt, Ends, Held, Room}
 use Rattle.state_slots.proofs.Parts.{words-at}
 use Rattle.state_layout.proofs.Kept.{span-kept, set-kept}
-use Rattle.state_slots.proofs.Lists.{all-so, all-to-map, all-perm, drop-sets}
+use Rattle.state_slots.proofs.Lists.{drop-sets}
 use Rattle.state_slots.proofs.Joining.{Some, InOrder, joins-in-order}
 
 -- a block key ends within the bytes

@@ -16,14 +16,16 @@ use Rattle.questions.specs.Sets.{keep, _unless_, first}
 use Rattle.questions.specs.Declarations.{blockNames, isStateful, declarations}
 use Rattle.questions.specs.Slots.{slotName, slotKeysAre, slotAnswer, words, byOffset, joinFrom, slots}
 use Rattle.questions.proofs.Chains.{says-yes, says-no, none-says-no, one-says-no, first-one}
+use Rattle.questions.proofs.Kept.{all-so, all-of-map, keep-all}
+use Rattle.questions.proofs.Ascends.{Ascends, ascends, keep-ascends}
+use Rattle.questions.proofs.Named.{blockName, Alone, each-alone}
 use Rattle.state_index.specs.Sort.{Kept}
 use Rattle.state_layout.specs.Tables.{manifestOf, tableStart, roomStart, Tabled, Table, Leaves}
 use Rattle.state_layout.proofs.Indexed.{table-blocks, table-slots, rows, room, start-there, leaves-all, tabled-kept}
 use Rattle.state_layout.proofs.Names.{keys-are, names-blocks}
 use Rattle.state_slots.specs.Walk.{blockAt, slotAt, statefulOf, sameLists, keysAgree, pairAnswers, answersAt, Held, Room}
-use Rattle.state_slots.proofs.Lists.{all-so, all-of-map, keep-all, keep-map, keep-alike}
-use Rattle.state_slots.proofs.Agree.{Ascends, ascends, lists-same, same-set, keep-ascends}
-use Rattle.state_slots.proofs.Named.{blockName, Alone, each-alone}
+use Rattle.state_slots.proofs.Lists.{keep-map, keep-alike}
+use Rattle.state_slots.proofs.Agree.{lists-same, same-set}
 use Rattle.state_slots.proofs.Answers.{blocks-some, slot-answers, pairs-none}
 
 module _ {s index : List ℕ} (t : Tabled s index) where

@@ -1,7 +1,8 @@
-use Rattle.state_declarations.proofs.Parts.{head-past}
+use Rattle.format.specs.Manifest.{blockHead}
+use Rattle.format.specs.Places.{past}
 use borrow.Author.Needs.{needs}
-use Rattle.state_declarations.proofs.blocks.parameters_at.Statement.{statement}
-use Rattle.state_declarations.proofs.blocks.parameters_at.Tie as tie
+use Rattle.state_layout.proofs.ends.parameters_at.Statement.{statement}
+use Rattle.state_layout.proofs.ends.parameters_at.Tie as tie
 
 block-kind-at-requires : tie.Need-block-kind-at-requires
 block-kind-at-requires c κs = search needs
@@ -16,7 +17,8 @@ ahead-requires-3 : tie.Need-ahead-requires-3
 ahead-requires-3 c κs = search needs
 
 returns : tie.Need-returns
-returns c = head-past _ _ (c .before .before .before .block-kind-at .ensures) (c .before .before .ahead .ensures) (c .before .ahead2 .ensures) (c .ahead3 .ensures)
+unfolding blockHead past
+returns c = rw (c .ahead3 .ensures, c .before .ahead2 .ensures, c .before .before .ahead .ensures, c .before .before .before .block-kind-at .ensures)
 
 pub parameters-at-spec : {M : Type 1} → statement M
 parameters-at-spec =

@@ -1,0 +1,7 @@
+-- `Demand3`: demand 3 of the calls' answers; it is the file to open first. `Faithful`: what the comparison of a section finds. `Sections`: which
+-- section the verdict names. `Once`: slots that join hold each word once. `Words`: so do those of a manifest that is accepted.
+pub mod Faithful
+pub mod Sections
+pub mod Once
+pub mod Words
+pub mod Demand3
