@@ -1,109 +1,125 @@
--- What acceptance leaves, and what the units come to.
-use Prim.Native.Nat.{ℕ, zero, suc, _+_, _-_, _≤_}
+-- What the answer of `decode_manifest` tells, and what it leaves.
+use Prim.Native.Nat.{ℕ, _+_, _-_, _≤_}
 use native.Mathlib.Omega.{arith}
 use mathlib.Core.Path.{_≡_, refl, sym, ap, _∙_, subst}
 use mathlib.Core.Bool.{true}
 use mathlib.Core.List.{List, _++_}
 use lib.ListN.{length, replicate, length-append, length-replicate}
 use lib.Seq.{take-at}
+use Rattle.state.specs.Bytes.{AreBytes}
 use Rattle.state.specs.Outcome.{Outcome, got, refused}
 use Rattle.state.specs.declared.Answer.the-variants as answer
 use Rattle.state.specs.declared.Decoded.{Decoded}
 use Rattle.state.specs.declared.Units.{Units}
 use Rattle.state.specs.declared.Units.the-variants as units
-use Rattle.state.proofs.Outcome.{Yields, this, nothing, yielded, yields-bind}
+use Rattle.state.proofs.Outcome.{Yields, yielded}
 use Rattle.format.specs.Format.{El}
 use Rattle.format.specs.Manifest.{manifest}
 use Rattle.format.specs.Fields.{slotsOf}
 use Rattle.format.specs.Places.{manifestStarts, past}
-use Rattle.format.specs.Reading.{indexWords}
-use Rattle.format.specs.Values.{valueAt, Well}
+use Rattle.format.specs.Values.{valueAt}
 use Rattle.format.proofs.Values.{value-got, well}
 use Rattle.questions.specs.Sets.{all}
 use Rattle.questions.specs.Slots.{endFits}
 use Rattle.questions.specs.Portability.{targetBoundClasses}
-use Rattle.questions.specs.Order.{firstFailing}
-use Rattle.questions.specs.Answers.{judged, judge, decodedOf, indexAfter, decodeManifest, decodedIndex}
+use Rattle.questions.specs.Answers.{judge, offsetAt, decodedOf, decodeManifest, decodedIndex}
 use Rattle.questions.specs.Units.{unitsAnswer, unitsIndex}
+use Rattle.verdict.specs.Demand3.{WordsDemand}
+use Rattle.verdict.proofs.Demand3.{words-are-held, words-given}
+use Rattle.questions.proofs.Accepted.{Judged, judge-tells, slots-say-yes, accepted-got}
 use Rattle.state_layout.specs.Tables.{manifestOf}
 use Rattle.state_layout.proofs.Tables.{limit}
-use Rattle.manifest.proofs.Judging.{Passed, yields-passed}
 use Rattle.state_manifest.specs.Accepted.{Accepted}
+use Rattle.state_manifest.specs.Comparing.{Stands}
 use Rattle.state_manifest.proofs.Sections.{starts-twelve}
 use Rattle.state_manifest.proofs.Counting.{kept}
-use Rattle.state_manifest.proofs.Ends.{failing-none}
+use Rattle.state_manifest.proofs.Ends.{ends-fit}
 
--- ---- what is accepted
-record Judged (s : List ℕ) (w : ℕ) : Type 0 where
-  well : Well limit manifest s 0
-  fits : all endFits (slotsOf (manifestOf s)) ≡ true
-  words : indexWords (length s) ≤ w
-
--- a manifest that was read, and over which no question says no
-passed-judged : (revision : ℕ) {s : List ℕ} {w : ℕ} {m : El manifest} {n : ℕ} → Passed s w m n → firstFailing targetBoundClasses revision m ≡ 0 → (manifestOf s ≡ m) × Judged s w
-passed-judged revision {s} {w} {m} {n} p e =
-    let i : manifestOf s ≡ m = yielded (subst (Yields (λ v k. (past manifest s 0 ≡ k) × (valueAt manifest s 0 ≡ v))) (p .reads) (value-got limit s manifest 0)) .1 in
-    (i, record { well = well limit s manifest 0 (omega arith) (p .reads); fits = rw i (failing-none targetBoundClasses revision m e); words = p .words })
-
-yields-judged : {P : El manifest → ℕ → Type 0} (q : ℕ) (m : El manifest) (n : ℕ) → (q ≡ 0 → P m n) → Yields P (judged q m n)
-yields-judged zero m n h = this (h refl)
-yields-judged (suc q) m n h = nothing
-
-judge-yields : (revision : ℕ) (s : List ℕ) (w : ℕ) → Yields (λ m n. (manifestOf s ≡ m) × Judged s w) (judge targetBoundClasses revision s w)
-unfolding judge
-judge-yields revision s w = yields-bind (yields-passed s w) λ m n p. yields-judged (firstFailing targetBoundClasses revision m) m n (passed-judged revision p)
-
--- ---- by the answer
-answer-accepted : (base : ℕ) (s : List ℕ) {Q : Type 0} (o : Outcome (El manifest)) → Yields (λ m n. (manifestOf s ≡ m) × Q) o → decodedOf base s o .answer ≡ answer.Accepted
-    → (n : ℕ) × (o ≡ got (manifestOf s) n) × Q
-answer-accepted base s (got m n) (this p) e = (n, rw (p .0), p .1)
-answer-accepted base s (refused q x) y e = let z : _≡_ {A = ℕ} 0 1 = cc in absurd (omega arith)
-
-answer-refused : (base : ℕ) (s old : List ℕ) (o : Outcome (El manifest)) {q p : ℕ} → decodedOf base s o .answer ≡ answer.Refused q p
-    → (units.Refused q p ≡ unitsAnswer base o) × (indexAfter s old o ≡ unitsIndex s old o)
-unfolding unitsAnswer unitsIndex
-answer-refused base s old (got m n) e = let z : _≡_ {A = ℕ} 0 1 = cc in absurd (omega arith)
-answer-refused base s old (refused k x) e = (cc, refl)
-
--- ---- what `decode_manifest` answers and leaves
-abbrev judgment : (s old : List ℕ) → (revision : ℕ) → Outcome (El manifest)
+-- questions 1 to 32
+abbrev pub judgment : (s old : List ℕ) → (revision : ℕ) → Outcome (El manifest)
 judgment s old revision = judge targetBoundClasses revision s (length old)
 
--- the answer and the index of a call for units
-abbrev pub Says : (s old : List ℕ) → (base revision : ℕ) → Units → List ℕ → Type 0
-Says s old base revision r last = (r ≡ unitsAnswer base (judgment s old revision)) × (last ≡ unitsIndex s old (judgment s old revision))
+-- ---- a refusal
+-- question and position of what was refused with q at the offset p
+pub record Refusal (base : ℕ) (o : Outcome (El manifest)) (q p : ℕ) : Type 0 where
+  pub position : ℕ
+  pub is : o ≡ refused q position
+  pub offset : p ≡ offsetAt base q position
 
-module _ (s old : List ℕ) (base revision : ℕ) {d : Decoded} (is : d ≡ decodeManifest targetBoundClasses s base revision old)
-    {new : List ℕ} (left : new ≡ decodedIndex targetBoundClasses s revision old) where
-  answered : d .answer ≡ decodedOf base s (judgment s old revision) .answer
+refusal-of : (base : ℕ) (s : List ℕ) (o : Outcome (El manifest)) {q p : ℕ} → decodedOf base s o .answer ≡ answer.Refused q p → Refusal base o q p
+refusal-of base s (got m n) e = let z : _≡_ {A = ℕ} 0 1 = cc in absurd (omega arith)
+refusal-of base s (refused k x) {q} {p} e =
+    let i : k ≡ q = cc in
+    let j : offsetAt base k x ≡ p = cc in
+    record { position = x; is = rw i; offset = sym j ∙ rw i }
+
+module _ (s old : List ℕ) (base revision : ℕ) {d : Decoded} (is : d ≡ decodeManifest targetBoundClasses s base revision old) where
+  pub answer-refused : {q p : ℕ} → d .answer ≡ answer.Refused q p → Refusal base (judgment s old revision) q p
   unfolding decodeManifest
-  answered = ap (λ x. x .answer) is
+  answer-refused e = refusal-of base s (judgment s old revision) (sym (ap (λ x. x .answer) is) ∙ e)
 
-  pub units-refused : {q p : ℕ} → d .answer ≡ answer.Refused q p → Says s old base revision (units.Refused q p) new
-  unfolding decodedIndex
-  units-refused e = let a = answer-refused base s old (judgment s old revision) (sym answered ∙ e) in (a .0, left ∙ a .1)
-
+  -- ---- acceptance
   module _ (e : d .answer ≡ answer.Accepted) where
-    accepts : (n : ℕ) × (judgment s old revision ≡ got (manifestOf s) n) × Judged s (length old)
-    accepts = answer-accepted base s (judgment s old revision) (judge-yields revision s (length old)) (sym answered ∙ e)
+    accepted : (m : El manifest) × (n : ℕ) × (judgment s old revision ≡ got m n)
+    accepted = accepted-got targetBoundClasses revision s base old (sym (ap (λ x. x .answer) is) ∙ e)
 
-    left-is : new ≡ manifestStarts limit s ++ replicate (length old - 12) 0
-    unfolding decodedIndex
-    left-is = left ∙ rw (accepts .1)
+    judged : Judged targetBoundClasses revision s (length old) (accepted .0) (accepted .1)
+    judged = judge-tells targetBoundClasses revision s (length old) (accepted .2)
 
-    left-long : length new ≡ 12 + (length old - 12)
-    left-long = ap length left-is ∙ length-append (manifestStarts limit s) _ ∙ rw (starts-twelve s, length-replicate {A = ℕ} (length old - 12) 0)
+    -- it is the manifest that the bytes spell, to their end
+    spelled : (past manifest s 0 ≡ length s) × (manifestOf s ≡ accepted .0)
+    spelled = yielded (subst (Yields (λ v k. (past manifest s 0 ≡ k) × (valueAt manifest s 0 ≡ v))) (judged .passed .reads) (value-got limit s manifest 0))
 
-    pub accepted-leaves : Accepted s new
-    accepted-leaves = record {
-      well = accepts .2 .well;
-      fits = accepts .2 .fits;
-      long = omega (arith, left-long);
-      starts = rw left-is (take-at (manifestStarts limit s) _ 12 (starts-twelve s));
+    pub judged-as : (n : ℕ) × (judgment s old revision ≡ got (manifestOf s) n)
+    judged-as = (accepted .1, rw (spelled .1) (accepted .2))
+
+    pub accepted-stands : AreBytes s → Stands s (d .starts .at)
+    unfolding decodeManifest
+    accepted-stands bytes = record {
+      bytes = bytes;
+      well = well limit s manifest 0 (omega arith) (judged .passed .reads);
+      ends = spelled .0;
+      starts-are = ap (λ x. x .starts .at) is ∙ rw (accepted .2);
     }
 
-    pub units-counted : {r : Units} {last : List ℕ} → (r ≡ unitsAnswer 0 (got (manifestOf s) 0)) × (last ≡ kept s new) → Says s old base revision r last
-    unfolding unitsAnswer unitsIndex
-    units-counted h =
-        let l : length new ≡ length old = omega (arith, left-long, accepts .2 .words) in
-        rw (accepts .1, ← left-is, ← l) h
+    module _ {new : List ℕ} (left : new ≡ decodedIndex targetBoundClasses s revision old) where
+      left-is : new ≡ manifestStarts limit s ++ replicate (length old - 12) 0
+      unfolding decodedIndex
+      left-is = left ∙ rw (accepted .2)
+
+      left-long : length new ≡ 12 + (length old - 12)
+      left-long = ap length left-is ∙ length-append (manifestStarts limit s) _ ∙ rw (starts-twelve s, length-replicate {A = ℕ} (length old - 12) 0)
+
+      pub accepted-leaves : Accepted s new
+      accepted-leaves = record {
+        well = well limit s manifest 0 (omega arith) (judged .passed .reads);
+        fits = rw (spelled .1) (ends-fit (accepted .0) (slots-say-yes targetBoundClasses revision (accepted .0) (judged .none)));
+        long = omega (arith, left-long);
+        starts = rw left-is (take-at (manifestStarts limit s) _ 12 (starts-twelve s));
+      }
+
+-- ---- the answer and the index of a call for units
+abbrev pub Says : (s old : List ℕ) → (base revision : ℕ) → Units → List ℕ → Type 0
+Says s old base revision r last =
+    (r ≡ unitsAnswer base (judgment s old revision)) × ((last ≡ unitsIndex s old (judgment s old revision)) × WordsDemand targetBoundClasses s revision old r)
+
+-- and so demand 3 of the words
+demanded : (s old : List ℕ) (base revision : ℕ) → AreBytes s → {r : Units} → r ≡ unitsAnswer base (judgment s old revision) → WordsDemand targetBoundClasses s revision old r
+demanded s old base revision bytes e m n a =
+    (words-are-held targetBoundClasses s revision (length old) bytes a, words-given targetBoundClasses s revision (length old) bytes a base e)
+
+module _ (s old : List ℕ) (base revision : ℕ) (bytes : AreBytes s) {d : Decoded} (is : d ≡ decodeManifest targetBoundClasses s base revision old)
+    {new : List ℕ} (left : new ≡ decodedIndex targetBoundClasses s revision old) where
+  pub units-refused : {q p : ℕ} → d .answer ≡ answer.Refused q p → Says s old base revision (units.Refused q p) new
+  unfolding decodedIndex unitsAnswer unitsIndex
+  units-refused {q} e =
+      let r = answer-refused s old base revision is e in
+      let i = ap (units.Refused q) (r .offset) ∙ sym (ap (unitsAnswer base) (r .is)) in
+      (i, (left ∙ rw (r .is), demanded s old base revision bytes i))
+
+  pub units-counted : d .answer ≡ answer.Accepted → {r : Units} {last : List ℕ} → (r ≡ unitsAnswer 0 (got (manifestOf s) 0)) × (last ≡ kept s new) → Says s old base revision r last
+  unfolding unitsAnswer unitsIndex
+  units-counted e {r} {last} h =
+      let l : length new ≡ length old = omega (arith, left-long s old base revision is e left, judged s old base revision is e .passed .words) in
+      let p : (r ≡ unitsAnswer base (judgment s old revision)) × (last ≡ unitsIndex s old (judgment s old revision)) = rw (judged-as s old base revision is e .1, ← left-is s old base revision is e left, ← l) h in
+      (p .0, (p .1, demanded s old base revision bytes (p .0)))

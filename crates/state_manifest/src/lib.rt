@@ -1,7 +1,12 @@
-// The word total and the units of a manifest.
+// The word total and the units of a manifest, and the verdict on two.
+pub mod blocks;
+pub mod compare;
+
+use compare::compare_sections;
 use manifest::decode_manifest;
 use state::Answer;
 use state::Units;
+use state::Verdict;
 use state_index::ahead;
 use state_index::clear;
 use state_index::keys::block_key_end;
@@ -19,9 +24,11 @@ ghost use Rattle.format.specs.Values.{valueAt};
 ghost use Rattle.questions.specs.Sets.{all};
 ghost use Rattle.questions.specs.Slots.{endFits};
 ghost use Rattle.questions.specs.Portability.{targetBoundClasses};
-ghost use Rattle.questions.specs.Answers.{judge};
+ghost use Rattle.questions.specs.Answers.{judge, decodedIndex};
 ghost use Rattle.questions.specs.Units.{wordTotal, unitsOf, unitsAnswer, unitsIndex};
 ghost use Rattle.state_layout.specs.Tables.{manifestOf};
+ghost use Rattle.verdict.specs.Answers.{compareManifests, targetIndex};
+ghost use Rattle.verdict.specs.Demand3.{VerdictDemand, WordsDemand};
 ghost use Rattle.state_manifest.specs.Accepted.{Accepted};
 
 fn larger(a: u64, b: u64) -> u64
@@ -70,6 +77,7 @@ fn count_units(s: &[u8], index: &mut [u32]) -> Units
 pub fn units(bytes: &[u8], base: u64, revision: u32, index: &mut [u32]) -> Units
     ensures { λ r. ⌜ r ≡ unitsAnswer base (judge targetBoundClasses revision (now (bytes .entry)) (length (now (index .entry)))) ⌝ }
     ensures { λ _. ⌜ now (index .exit) ≡ unitsIndex (now (bytes .entry)) (now (index .entry)) (judge targetBoundClasses revision (now (bytes .entry)) (length (now (index .entry)))) ⌝ }
+    ensures { λ r. ⌜ WordsDemand targetBoundClasses (now (bytes .entry)) revision (now (index .entry)) r ⌝ }
 {
     let d = decode_manifest(bytes, base, revision, index);
     let answer = d.answer;
@@ -77,4 +85,35 @@ pub fn units(bytes: &[u8], base: u64, revision: u32, index: &mut [u32]) -> Units
         Answer::Refused(question, offset) => Units::Refused(question, offset),
         Answer::Accepted => count_units(bytes, index),
     }
+}
+
+// The verdict on a snapshot's manifest and the target's, each with its own base, revision and index; or the refusal of the first that is refused.
+pub fn compare_manifests(
+    snapshot: &[u8],
+    base: u64,
+    revision: u32,
+    index: &mut [u32],
+    target: &[u8],
+    base2: u64,
+    revision2: u32,
+    index2: &mut [u32],
+) -> Verdict
+    ensures { λ r. ⌜ r ≡ compareManifests targetBoundClasses (now (snapshot .entry)) base revision (now (index .entry)) (now (target .entry)) base2 revision2 (now (index2 .entry)) ⌝ }
+    ensures { λ _. ⌜ now (index .exit) ≡ decodedIndex targetBoundClasses (now (snapshot .entry)) revision (now (index .entry)) ⌝ }
+    ensures { λ _. ⌜ now (index2 .exit) ≡ targetIndex targetBoundClasses (now (snapshot .entry)) base revision (now (index .entry)) (now (target .entry)) base2 revision2 (now (index2 .entry)) ⌝ }
+    ensures { λ r. ⌜ VerdictDemand targetBoundClasses (now (snapshot .entry)) base revision (now (index .entry)) (now (target .entry)) base2 revision2 (now (index2 .entry)) r ⌝ }
+{
+    let first = decode_manifest(snapshot, base, revision, index);
+    let answer = first.answer;
+    if let Answer::Refused(question, offset) = answer {
+        return Verdict::SnapshotRefused(question, offset);
+    }
+    let second = decode_manifest(target, base2, revision2, index2);
+    let answer2 = second.answer;
+    if let Answer::Refused(question, offset) = answer2 {
+        return Verdict::TargetRefused(question, offset);
+    }
+    let starts = first.starts;
+    let starts2 = second.starts;
+    compare_sections(snapshot, target, starts, starts2)
 }

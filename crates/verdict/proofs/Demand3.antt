@@ -22,14 +22,14 @@ use Rattle.verdict.specs.Demand3.{VerdictRight, stateWords, WordsHeld}
 use Rattle.verdict.proofs.Sections.{verdict-read}
 use Rattle.verdict.proofs.Words.{words-held}
 
--- DEMAND 3. For every snapshot's manifest and every target's, each accepted, whatever their bases and revisions
+-- DEMAND 3. "For every snapshot's manifest and every target's, each accepted, whatever their bases and revisions": s and t, with any base,
+-- revision and index each
 module _ (bound : List (List ℕ)) (s : List ℕ) (base revision : ℕ) (index : List ℕ) (t : List ℕ) (base′ revision′ : ℕ) (index′ : List ℕ) (bytes : AreBytes s) (bytes′ : AreBytes t)
-    (snapshot : decodeManifest bound s base revision index .answer ≡ Accepted) (target : decodeManifest bound t base′ revision′ index′ .answer ≡ Accepted)
-    -- what `compare_manifests` answers
+    -- r is what `compare_manifests` answers
     {r : Verdict} (answered : r ≡ compareManifests bound s base revision index t base′ revision′ index′) where
-  pub verdict-right : VerdictRight s t r
+  pub verdict-right : decodeManifest bound s base revision index .answer ≡ Accepted → decodeManifest bound t base′ revision′ index′ .answer ≡ Accepted → VerdictRight s t r
   unfolding compareManifests
-  verdict-right =
+  verdict-right snapshot target =
       let a = accepted-got bound revision s base index snapshot in
       let b = accepted-got bound revision′ t base′ index′ target in
       let p = judge-tells bound revision s _ (a .2) .passed in
@@ -43,11 +43,11 @@ module _ (bound : List (List ℕ)) (s : List ℕ) (revision w : ℕ) (bytes : Ar
       let j = judge-tells bound revision s w accepted in
       words-held m (passed-canonical s w bytes (j .passed) .1) (slots-say-yes bound revision m (j .none))
 
-  -- "that sum is the word total wherever one is given": what `units` answers
-  pub words-given : (base : ℕ) {r : Units} → r ≡ unitsAnswer base (judge bound revision s w) → (words units : ℕ) → r ≡ Of words units → words ≡ stateWords m
+  -- "that sum is the word total wherever one is given": r is what `units` answers
+  pub words-given : (base : ℕ) {r : Units} → r ≡ unitsAnswer base (judge bound revision s w) → (total units : ℕ) → r ≡ Of total units → total ≡ stateWords m
   unfolding unitsAnswer
-  words-given base e words units i = given (leb (unitsOf m) (2 ^ 64 - 1)) (sym i ∙ e ∙ rw accepted) ∙ words-are-held .total
+  words-given base e total units i = given (leb (unitsOf m) (2 ^ 64 - 1)) (sym i ∙ e ∙ rw accepted) ∙ words-are-held .total
     where
-      given : (b : Bool) → Of words units ≡ cond b (Of (wordTotal (slotsOf m)) (unitsOf m)) (Refused 39 0) → words ≡ wordTotal (slotsOf m)
+      given : (b : Bool) → Of total units ≡ cond b (Of (wordTotal (slotsOf m)) (unitsOf m)) (Refused 39 0) → total ≡ wordTotal (slotsOf m)
       given true h = cc
       given false h = let z : _≡_ {A = ℕ} 0 1 = cc in absurd (omega arith)

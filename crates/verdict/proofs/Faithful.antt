@@ -1,5 +1,5 @@
 -- What the comparison of a section finds: nothing exactly where the two values are written alike, and else a difference in that section.
-use Prim.Native.Nat.{ℕ, suc}
+use Prim.Native.Nat.{ℕ, suc, _+_}
 use native.Mathlib.Omega.{arith}
 use mathlib.Core.Path.{_≡_, refl, sym, ap, _∙_}
 use mathlib.Core.Bool.{Bool, true, false, cond}
@@ -155,7 +155,7 @@ params-finds i = list-finds 4 6 _ text value _ _ (λ j. field-finds 3 text 6 i j
 -- inputs or outputs: a connector's key each
 ports-finds : (p i : ℕ) → Finds 3 connectorKeys (portsVerdict p i)
 unfolding connectorKeys portsVerdict
-ports-finds p i = list-finds 4 10 _ connectorKey done _ _ (λ j. key-finds (field-finds 3 connectorKey p i j)) (λ j. (suc p, i, j, refl))
+ports-finds p i = list-finds 4 10 _ connectorKey done _ _ (λ j. key-finds (field-finds 3 connectorKey p i j)) (λ j. (p + 1, i, j, refl))
 
 -- a block, part by part
 block-finds : (i : ℕ) → Finds 3 (entry blocks) (blockVerdict i)

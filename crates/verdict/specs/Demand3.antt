@@ -1,10 +1,14 @@
 -- Demand 3, sentence by sentence: of the bytes of a snapshot's manifest and a target's, each accepted, and of the verdict on them; and of the
--- slots of an accepted manifest. proofs/Demand3.antt proves it of the calls' answers.
+-- slots of an accepted manifest. proofs/Demand3.antt proves it of the calls' answers, and the calls promise it.
 use Prim.Native.Nat.{ℕ, _+_, _≤_, _<_}
 use mathlib.Core.Path.{_≡_}
 use mathlib.Core.Logic.{_↔_}
 use mathlib.Core.List.{List, [], _∷_, map}
 use lib.ListN.{length, getD, take}
+use Rattle.state.specs.Outcome.{got}
+use Rattle.state.specs.declared.Answer.the-variants.{Accepted}
+use Rattle.state.specs.declared.Units.{Units}
+use Rattle.state.specs.declared.Units.the-variants.{Of}
 use Rattle.state.specs.declared.Verdict.{Verdict}
 use Rattle.state.specs.declared.Verdict.the-variants.{Compatible, Differs}
 use Rattle.state_wire.specs.Fields.{maxSnapshotBytes}
@@ -15,6 +19,7 @@ use Rattle.format.specs.Places.{sectionStart, sectionEnd}
 use Rattle.questions.specs.Sets.{keep}
 use Rattle.questions.specs.Declarations.{isStateful}
 use Rattle.questions.specs.Slots.{words}
+use Rattle.questions.specs.Answers.{judge, decodeManifest}
 use Rattle.questions.specs.Units.{wordTotal}
 
 -- ---- the verdict
@@ -52,6 +57,12 @@ pub record VerdictRight (s t : List ℕ) (v : Verdict) : Type 0 where
   pub compatible : v ≡ Compatible ↔ Equal s t
   pub otherwise : (v ≡ Compatible → ⊥) → Differing s t v
 
+-- what `compare_manifests` promises of its answer: "For every snapshot's manifest and every target's, each accepted, whatever their bases and
+-- revisions"
+abbrev pub VerdictDemand : (bound : List (List ℕ)) → (s : List ℕ) (base revision : ℕ) (index : List ℕ) → (t : List ℕ) (base′ revision′ : ℕ) (index′ : List ℕ) → Verdict → Type 0
+VerdictDemand bound s base revision index t base′ revision′ index′ v =
+    decodeManifest bound s base revision index .answer ≡ Accepted → decodeManifest bound t base′ revision′ index′ .answer ≡ Accepted → VerdictRight s t v
+
 -- ---- the words
 -- "A slot holds the state words from its offset on, as many as its length"
 abbrev pub HoldsWord : ℕ × ℕ → ℕ → Type 0
@@ -79,3 +90,8 @@ pub record WordsHeld (m : El manifest) : Type 0 where
   pub within : (j : ℕ) → j < length (slotsOf m) → (x : ℕ) → HoldsWord (getD (map words (slotsOf m)) j (0, 0)) x → x < stateWords m
   -- "and that sum is the word total wherever one is given"
   pub total : wordTotal (slotsOf m) ≡ stateWords m
+
+-- what `units` promises of its answer: "In each accepted manifest", m as it was read
+abbrev pub WordsDemand : (bound : List (List ℕ)) → (s : List ℕ) (revision : ℕ) (index : List ℕ) → Units → Type 0
+WordsDemand bound s revision index r =
+    (m : El manifest) (n : ℕ) → judge bound revision s (length index) ≡ got m n → WordsHeld m × ((total units : ℕ) → r ≡ Of total units → total ≡ stateWords m)

@@ -1,5 +1,5 @@
 -- Document 01, "Verdict and units": where two manifests, as read, first differ.
-use Prim.Native.Nat.{ℕ, zero, suc}
+use Prim.Native.Nat.{ℕ, suc, _+_}
 use mathlib.Core.Bool.{cond}
 use mathlib.Core.List.{List, [], _∷_, map}
 use Rattle.state.specs.declared.Verdict.{Verdict}
@@ -55,7 +55,7 @@ paramsVerdict i = along (paramVerdict i) (inBlocks 8 i) 0
 -- "9 input, 10 input count, 11 output, 12 output count": a part, and the next one for the count
 unfoldable pub portsVerdict : (part i : ℕ) → El connectorKeys → El connectorKeys → Verdict
 unfolding connectorKeys
-portsVerdict p i = along (λ j a b. field connectorKey (inBlocks p i j) (a .0) (b .0)) (inBlocks (suc p) i) 0
+portsVerdict p i = along (λ j a b. field connectorKey (inBlocks p i j) (a .0) (b .0)) (inBlocks (p + 1) i) 0
 
 unfoldable pub blockVerdict : (i : ℕ) → Entry blocks → Entry blocks → Verdict
 blockVerdict i a b =
