@@ -4,14 +4,17 @@
     python3 tools/manifest_vectors.py ORACLE        or ORACLE=.. python3 tools/manifest_vectors.py
 
 ORACLE is the program built from the published Rust; its record 'm' (base, revision, a manifest) runs decode_manifest
-and gives `refused QUESTION OFFSET | ..` or `accepted WORDS CONNECTORS s1 .. s12 ..`, the section starts. Its answers
-are taken as they are. Questions 1 and 2 are not the Rust's: the answers of lines with too few index words are from
-document 01's rule, and question 1, which needs more than 64 MiB, is tested by tools/bench/decoding.rs.
-crates/replay_manifests/src/main.rt has the meaning of the lines. A fixed seed: a second run writes the same files.
+and gives `refused QUESTION OFFSET | ..` or `accepted WORDS CONNECTORS s1 .. s12 ..`, the section starts. Its record 'v'
+(two of these) runs compare_manifests and gives `compatible`, `differs SECTION PART ENTRY INNER`, or the refusal after
+`snapshot` or `target`. Its answers are taken as they are. Questions 1 and 2 are not the Rust's: the answers of lines
+with too few index words are from document 01's rule, and question 1, which needs more than 64 MiB, is tested by
+tools/bench/decoding.rs. crates/replay_manifests/src/main.rt has the meaning of the lines. Fixed seeds: a second run
+writes the same files.
 
-The inputs are those of tools/manifest_cases.py, for questions 3 to 10, and of tools/question_cases.py, for 11 to 32.
-The run fails unless each of the questions 2 to 32 was met at least 20 times, each from 3 to 9 in every section in
-which it can arise, and each from 11 to 32 by every kind of edit that is made for it.
+The inputs are those of tools/manifest_cases.py, for questions 3 to 10, of tools/question_cases.py, for 11 to 32, and
+of tools/verdict_cases.py, pairs. The run fails unless each of the questions 2 to 32 was met at least 20 times, each
+from 3 to 9 in every section in which it can arise, and each from 11 to 32 by every kind of edit that is made for it;
+and of the pairs each section and part in which accepted manifests can differ, and every kind of edit, at least 5 times.
 """
 import collections
 import os
@@ -23,6 +26,7 @@ import sys
 from manifest_cases import all_cases
 from manifests import *
 from question_cases import EACH, EDITS, question_cases
+from verdict_cases import show_pairs, verdict_pairs
 
 ROOT = os.path.dirname(os.path.dirname(os.path.abspath(__file__)))
 DICE = random.Random(1132)
@@ -55,16 +59,24 @@ def all_lines():
     return once + [other for line in once[::250] for other in other_indexes(line)]
 
 
-def ask(asked):
-    """What the lines answer: the oracle's words, but for question 2."""
+def told(records):
+    """The oracle's words on records, without details."""
     program = sys.argv[1] if len(sys.argv) > 1 else os.environ.get("ORACLE")
     if not program:
         sys.exit(__doc__)
-    records = [b"m" + struct.pack("<QII", x.base, x.revision, len(x.bytes)) + x.bytes for x in asked]
     run = subprocess.run([program], input=b"".join(records), stdout=subprocess.PIPE, check=True)
     answers = run.stdout.decode().split("\n")[:-1]
-    assert len(answers) == len(asked)
-    return [answer(line, said.split(" | ")[0].split()) for line, said in zip(asked, answers)]
+    assert len(answers) == len(records)
+    return [said.split(" | ")[0].split() for said in answers]
+
+
+def call(x):
+    return struct.pack("<QII", x.base, x.revision, len(x.bytes)) + x.bytes
+
+
+def ask(asked):
+    """What the lines answer: the oracle's words, but for question 2."""
+    return [answer(x, words) for x, words in zip(asked, told([b"m" + call(x) for x in asked]))]
 
 
 def answer(line, words):
@@ -74,6 +86,24 @@ def answer(line, words):
         return "accepted " + " ".join(words[3:15])
     assert words[0] == "refused" and words[1].isdigit(), words
     return " ".join(words[:3])
+
+
+def ask_pairs(asked):
+    """What the manifests of each pair answer alone, and what the pairs answer."""
+    sides = list(zip(ask([x.snapshot for x in asked]), ask([x.target for x in asked])))
+    verdicts = told([b"v" + call(x.snapshot) + call(x.target) for x in asked])
+    return sides, [verdict(*two, words) for two, words in zip(sides, verdicts)]
+
+
+def verdict(snapshot, target, words):
+    """The first refusal, or the oracle's words; and the starts of what is accepted."""
+    names = ("snapshot", "target")
+    for i, said in enumerate((snapshot, target)):
+        if said.startswith("refused"):
+            assert said == "refused 2 0" or [names[i], *said.split()] == words, (said, words)
+            return said.replace("refused", names[i]) + snapshot.replace("accepted", " starts") * i
+    assert words[0] in ("compatible", "differs"), words
+    return " ".join([*words, snapshot, target]).replace("accepted", "starts")
 
 
 def question(said):
@@ -104,12 +134,17 @@ def show(asked, answers):
     assert all(q in ARISE[s] for s, q in where if s), "a question where none can arise"
 
 
+def row(x):
+    return "%d %d %d %s" % (x.base, x.revision, x.words, x.bytes.hex() or "-")
+
+
 def main():
-    asked = all_lines()
-    answers = ask(asked)
+    asked, pairs = all_lines(), verdict_pairs(random.Random(2417))
+    answers, (sides, verdicts) = ask(asked), ask_pairs(pairs)
     show(asked, answers)
-    rows = ["%d %d %d %s" % (x.base, x.revision, x.words, x.bytes.hex() or "-") for x in asked]
-    for name, content in (("stdin", rows), ("stdout", answers)):
+    show_pairs(pairs, sides, verdicts)
+    rows = [row(x) for x in asked] + [row(x.snapshot) + " " + row(x.target) for x in pairs]
+    for name, content in (("stdin", rows), ("stdout", answers + verdicts)):
         with open(os.path.join(ROOT, "crates", "replay_manifests", name), "w", newline="\n") as f:
             f.write("".join(line + "\n" for line in content))
 

@@ -4,29 +4,47 @@ use borrow.Author.Needs.{needs}
 use Rattle.replay_manifests.proofs.answer.Statement.{statement}
 use Rattle.replay_manifests.proofs.answer.Tie as tie
 
+call-at-requires : tie.Need-call-at-requires
+call-at-requires c κs = search needs
+
 after-word-requires : tie.Need-after-word-requires
 after-word-requires c κs = search needs
 
-after-word-requires-2 : tie.Need-after-word-requires-2
-after-word-requires-2 c κs = search needs
+call-at-requires-2 : tie.Need-call-at-requires-2
+call-at-requires-2 c κs = search needs
 
-position-requires : tie.Need-position-requires
-position-requires c κs = search needs
-
-after-word-requires-3 : tie.Need-after-word-requires-3
-after-word-requires-3 c κs = search needs
+returns : tie.Need-returns
+returns c = search needs
 
 bytes-requires : tie.Need-bytes-requires
 bytes-requires c κs = search needs
 
+bytes-requires-2 : tie.Need-bytes-requires-2
+bytes-requires-2 c κs = search needs
+
 part-requires : tie.Need-part-requires
 part-requires c κs = search needs
 
-number-requires : tie.Need-number-requires
-number-requires c κs = search needs
+slice-relend-prefix-compare : tie.Need-slice-relend-prefix-compare
+slice-relend-prefix-compare c = search needs
 
-small-number-requires : tie.Need-small-number-requires
-small-number-requires c κs = search needs
+slice-aggregate-compare : tie.Need-slice-aggregate-compare
+slice-aggregate-compare c = sym (length-take-le _ _ (search needs))
+
+part-requires-2 : tie.Need-part-requires-2
+part-requires-2 c κs = search needs
+
+slice-relend-prefix-compare-2 : tie.Need-slice-relend-prefix-compare-2
+slice-relend-prefix-compare-2 c = search needs
+
+slice-aggregate-compare-2 : tie.Need-slice-aggregate-compare-2
+slice-aggregate-compare-2 c = sym (length-take-le _ _ (search needs))
+
+compare-requires : tie.Need-compare-requires
+compare-requires c κs = search needs
+
+part-requires-3 : tie.Need-part-requires-3
+part-requires-3 c κs = search needs
 
 slice-relend-prefix-decode : tie.Need-slice-relend-prefix-decode
 slice-relend-prefix-decode c = search needs
@@ -43,32 +61,54 @@ same-length c = search needs
 same-length-2 : tie.Need-same-length-2
 same-length-2 c = search needs
 
-returns : tie.Need-returns
-returns c = search needs
-
 same-length-3 : tie.Need-same-length-3
 same-length-3 c = search needs
 
+same-length-4 : tie.Need-same-length-4
+same-length-4 c = search needs
+
 returns-2 : tie.Need-returns-2
 returns-2 c = search needs
+
+same-length-5 : tie.Need-same-length-5
+same-length-5 c = search needs
+
+same-length-6 : tie.Need-same-length-6
+same-length-6 c = search needs
+
+same-length-7 : tie.Need-same-length-7
+same-length-7 c = search needs
+
+returns-3 : tie.Need-returns-3
+returns-3 c = search needs
 
 pub answer-spec : {M : Type 1} → statement M
 answer-spec =
     tie.close
     (tie.spec
+    call-at-requires
     after-word-requires
-    after-word-requires-2
-    position-requires
-    after-word-requires-3
+    call-at-requires-2
+    returns
     bytes-requires
+    bytes-requires-2
     part-requires
-    number-requires
-    small-number-requires
+    slice-relend-prefix-compare
+    slice-aggregate-compare
+    part-requires-2
+    slice-relend-prefix-compare-2
+    slice-aggregate-compare-2
+    compare-requires
+    part-requires-3
     slice-relend-prefix-decode
     slice-aggregate-decode
     decode-requires
     same-length
     same-length-2
-    returns
     same-length-3
-    returns-2)
+    same-length-4
+    returns-2
+    same-length-5
+    same-length-6
+    same-length-7
+    returns-3)

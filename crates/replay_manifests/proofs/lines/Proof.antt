@@ -6,10 +6,10 @@ use Rattle.replay_manifests.proofs.lines.Statement.{statement}
 use Rattle.replay_manifests.proofs.lines.Tie as tie
 
 abbrev Inv-loop : tie.InvT-loop
-Inv-loop line₀ room₀ index₀ done₀ line room index done = (length line ≡ length line₀) × ((length room ≡ length room₀) × (length index ≡ length index₀))
+Inv-loop line₀ room₀ index₀ room2₀ index2₀ done₀ line room index room2 index2 done = (length line ≡ length line₀) × ((length room ≡ length room₀) × ((length index ≡ length index₀) × ((length room2 ≡ length room2₀) × (length index2 ≡ length index2₀))))
 
 abbrev μ-loop : tie.MeasureT-loop
-μ-loop line₀ room₀ index₀ done₀ line room index done = 1000000 - done
+μ-loop line₀ room₀ index₀ room2₀ index2₀ done₀ line room index room2 index2 done = 1000000 - done
 
 loop-holds : tie.Need-loop-holds Inv-loop μ-loop
 loop-holds c = search needs
@@ -25,6 +25,12 @@ same-length-2 c = search needs
 
 same-length-3 : tie.Need-same-length-3 Inv-loop μ-loop
 same-length-3 c = search needs
+
+same-length-4 : tie.Need-same-length-4 Inv-loop μ-loop
+same-length-4 c = search needs
+
+same-length-5 : tie.Need-same-length-5 Inv-loop μ-loop
+same-length-5 c = search needs
 
 returns : tie.Need-returns Inv-loop μ-loop
 returns c = search needs
@@ -44,14 +50,20 @@ loop-less c = search needs
 loop-again : tie.Need-loop-again Inv-loop μ-loop
 loop-again c = search needs
 
-same-length-4 : tie.Need-same-length-4 Inv-loop μ-loop
-same-length-4 c = search needs
-
-same-length-5 : tie.Need-same-length-5 Inv-loop μ-loop
-same-length-5 c = search needs
-
 same-length-6 : tie.Need-same-length-6 Inv-loop μ-loop
 same-length-6 c = search needs
+
+same-length-7 : tie.Need-same-length-7 Inv-loop μ-loop
+same-length-7 c = search needs
+
+same-length-8 : tie.Need-same-length-8 Inv-loop μ-loop
+same-length-8 c = search needs
+
+same-length-9 : tie.Need-same-length-9 Inv-loop μ-loop
+same-length-9 c = search needs
+
+same-length-10 : tie.Need-same-length-10 Inv-loop μ-loop
+same-length-10 c = search needs
 
 returns-2 : tie.Need-returns-2 Inv-loop μ-loop
 returns-2 c = search needs
@@ -67,13 +79,17 @@ lines-spec =
     same-length
     same-length-2
     same-length-3
+    same-length-4
+    same-length-5
     returns
     part-requires
     answer-requires
     add-done
     loop-less
     loop-again
-    same-length-4
-    same-length-5
     same-length-6
+    same-length-7
+    same-length-8
+    same-length-9
+    same-length-10
     returns-2)
