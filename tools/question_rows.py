@@ -293,6 +293,11 @@ def row(question, what, m, revision=2):
     return "    -- %s\n    ∷ %s\n" % (what, line if revision == 2 else "revision1 (%s)" % line)
 
 
-for name, questions in GROUPS.items():
-    rows = "".join(row(q, *r) for q in questions for r in ROWS[q]).replace("∷ ", "", 1)
-    print("\nabbrev pub %sRows : List Row\n%sRows =\n%s    ∷ []" % (name, name, rows))
+def main():
+    for name, questions in GROUPS.items():
+        rows = "".join(row(q, *r) for q in questions for r in ROWS[q]).replace("∷ ", "", 1)
+        print("\nabbrev pub %sRows : List Row\n%sRows =\n%s    ∷ []" % (name, name, rows))
+
+
+if __name__ == "__main__":
+    main()

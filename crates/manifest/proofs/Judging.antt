@@ -23,6 +23,7 @@ use Rattle.format.proofs.Values.{self, values-length, value-got, well, well-the
 use Rattle.questions.specs.Portability.{targetBoundClasses}
 use Rattle.questions.specs.Order.{firstFailing}
 use Rattle.questions.specs.Answers.{judged, judge}
+use Rattle.questions.proofs.Accepted.{Passed, yields-passed}
 use Rattle.questions.proofs.Numbers.{late-failing}
 use Rattle.state_layout.specs.Tables.{manifestOf, counts, total, tableStart, roomStart, Tabled, Leaves}
 use Rattle.state_layout.proofs.Indexed.{starts-twelve, rows, start-le, start-there}
@@ -57,42 +58,26 @@ module _ (s : List ℕ) (w : Well limit manifest s 0) where
   words-long = length-append (manifestStarts limit s) (manifestEntries limit s) ∙ rw entries-long
 
 -- ---- a manifest that was read
-pub record Passed (s : List ℕ) (w : ℕ) (v : El manifest) (n : ℕ) : Type 0 where
-  pub short : length s ≤ maxSnapshotBytes
-  pub words : indexWords (length s) ≤ w
-  pub reads : read limit manifest s 0 ≡ got v n
-  pub whole : n ≡ length s
-
-pub yields-passed : (s : List ℕ) (w : ℕ) → Yields (Passed s w) (readManifest limit s w)
-unfolding readManifest readSections
-yields-passed s w =
-    yields-ask (leb (length s) maxSnapshotBytes) _ _ λ a.
-    yields-ask (leb (indexWords (length s)) w) _ _ λ b.
-    yields-bind (self (read limit manifest s 0)) λ v n e.
-    yields-ask (eqb n (length s)) _ _ λ f.
-    this (record { short = leb-true _ _ a; words = leb-true _ _ b; reads = e; whole = eqb-true _ _ f })
-
 module _ {s old new : List ℕ} {n : ℕ} (bytes : AreBytes s) {r : Step} (reads : Reads s r old new) (next : r ≡ step.Next n) where
   passed : (v : El manifest) × (readManifest limit s (length old) ≡ got v n) × Passed s (length old) v n
   passed = step-yields (yields-passed s (length old)) (reads .is) next
 
-  is-manifest : valueAt manifest s 0 ≡ passed .0
-  is-manifest = yielded (subst (Yields (λ v m. (past manifest s 0 ≡ m) × (valueAt manifest s 0 ≡ v))) (passed .2 .reads) (value-got limit s manifest 0)) .1
+  spelled : (past manifest s 0 ≡ length s) × (manifestOf s ≡ passed .0)
+  spelled = yielded (subst (Yields (λ v m. (past manifest s 0 ≡ m) × (valueAt manifest s 0 ≡ v))) (passed .2 .reads) (value-got limit s manifest 0))
 
   -- what was read is the manifest that the bytes spell
   pub read-is : readManifest limit s (length old) ≡ got (manifestOf s) n
-  read-is = rw is-manifest (passed .1)
+  read-is = rw (spelled .1) (passed .1)
 
   -- and the index holds its tables
   pub read-tabled : Tabled s new
   read-tabled =
       let w : Well limit manifest s 0 = well limit s manifest 0 (omega arith) (passed .2 .reads) in
-      let e : past manifest s 0 ≡ n = yielded (subst (Yields (λ v m. (past manifest s 0 ≡ m) × (valueAt manifest s 0 ≡ v))) (passed .2 .reads) (value-got limit s manifest 0)) .0 in
       record {
         bytes = bytes;
         short = passed .2 .short;
         well = w;
-        whole = e ∙ passed .2 .whole;
+        whole = spelled .0;
         words = subst (λ (k : ℕ). take k new ≡ manifestStarts limit s ++ manifestEntries limit s) (words-long s w) (reads .starts n next);
         long = rw (reads .long) (passed .2 .words);
       }

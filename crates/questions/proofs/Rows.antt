@@ -85,7 +85,12 @@ figureOf f = unitsAnswer 0 (judge targetBoundClasses 2 (f .bytes) (indexWords (l
 abbrev answerTo : Row → Answer
 answerTo r = decodeManifest targetBoundClasses (r .bytes) (r .base) (r .revision) (replicate (r .index) 0) .answer
 
+-- to unfold this is to unfold all that an answer is computed by
+unfoldable pub opened : Unit {0}
+unfolding unitsAnswer unitsOf wordTotal hex pairs digits decodeManifest judge firstFailing answers declarations references slots boundaries inputDefinitionsHold portabilityHolds all any keep gather allIn sameSet eachOnce countDifferent _unless_ first blockNames connectorNames hasMember isStateful kindHolds inRange enumHolds paramsHold portHolds portsHold blockAnswer portNames blockPorts portsAre paramClasses classesAre isKnown isDirected joins scheduleHolds orderHolds drives driversHold externalNames externalsHold outputsHold slotName slotKeysAre lengthIs endFits slotAnswer words insert byOffset joinFrom externals sameType hasType oneType countIs isDefined boundHolds boundAnswer definitionAnswer inputAnswers ascii targetBoundClasses someBound tagHolds targetHolds portabilityOf enumsOf blocksOf connectorsOf connectionsOf scheduleOf connectorOrderOf driversOf slotsOf externalInputsOf boundaryOutputsOf inputDefinitionsOf portabilityTag target enumPath membersOf blockKeyOf classPath kind stateRevision stateLen paramsOf inputs outputs connectorKeyOf path valueTypeOf source sink scheduled ordered driven driver slotKey slotOffset slotLength externalInput outputName outputSource inputPath inputType minimum maximum typeTag valueTag typeClass valueClass ordinal given owner direction portIndex readManifest readSections read encode readSpan readNumber readTag readCount boundedCount readText validUpTo numberOf bytesOf blockKey connectorKey valueType value members params connectorKeys blockHead blockRest connectorRest slotRest inputRest portability manifest isIn allDifferent lexCompare
+opened = tt
+
 -- each row is answered as it says
 rows-hold : All (λ (r : Row). answerTo r ≡ r .answer) rows × All (λ (f : Figure). figureOf f ≡ f .figure) figures
-unfolding unitsAnswer unitsOf wordTotal hex pairs digits decodeManifest judge firstFailing answers declarations references slots boundaries inputDefinitionsHold portabilityHolds all any keep gather allIn sameSet eachOnce countDifferent _unless_ first blockNames connectorNames hasMember isStateful kindHolds inRange enumHolds paramsHold portHolds portsHold blockAnswer portNames blockPorts portsAre paramClasses classesAre isKnown isDirected joins scheduleHolds orderHolds drives driversHold externalNames externalsHold outputsHold slotName slotKeysAre lengthIs endFits slotAnswer words insert byOffset joinFrom externals sameType hasType oneType countIs isDefined boundHolds boundAnswer definitionAnswer inputAnswers ascii targetBoundClasses someBound tagHolds targetHolds portabilityOf enumsOf blocksOf connectorsOf connectionsOf scheduleOf connectorOrderOf driversOf slotsOf externalInputsOf boundaryOutputsOf inputDefinitionsOf portabilityTag target enumPath membersOf blockKeyOf classPath kind stateRevision stateLen paramsOf inputs outputs connectorKeyOf path valueTypeOf source sink scheduled ordered driven driver slotKey slotOffset slotLength externalInput outputName outputSource inputPath inputType minimum maximum typeTag valueTag typeClass valueClass ordinal given owner direction portIndex readManifest readSections read encode readSpan readNumber readTag readCount boundedCount readText validUpTo numberOf bytesOf blockKey connectorKey valueType value members params connectorKeys blockHead blockRest connectorRest slotRest inputRest portability manifest isIn allDifferent lexCompare
+unfolding opened
 rows-hold = (alike-each answerTo (λ (r : Row). r .answer) rows refl, alike-each figureOf (λ (f : Figure). f .figure) figures refl)

@@ -213,10 +213,10 @@ module _ {s t starts starts′ : List ℕ} (p : Stands s starts) (q : Stands t s
     unfolding manifest comparison
     honest-here = honest-at comparisons (k - 1) place manifest-honest
 
-    module _ {x : Bool} (test : x ≡ same (span s a e) (span t b f)) where
-      -- its bytes as they were tested
+    -- its bytes u and v were tested
+    module _ {x : Bool} {u v : List ℕ} (eu : u ≡ span s a e) (ev : v ≡ span t b f) (test : x ≡ same u v) where
       bytes-same : x ≡ same (span s a (past (comparison k .format) s a)) (span t b (past (comparison k .format) t b))
-      bytes-same = test ∙ rw (section-end p (l .from) h ea ee, section-end q (l .from) h eb ef)
+      bytes-same = test ∙ rw (eu, ev, section-end p (l .from) h ea ee, section-end q (l .from) h eb ef)
 
       -- they differ
       module _ (differ : x ≡ false) where

@@ -16,6 +16,7 @@ use state_layout::ends::value_end;
 ghost use mathlib.Core.Path.{_≡_};
 ghost use mathlib.Core.Bool.{cond};
 ghost use Prim.Native.Nat.{_≤_};
+ghost use lib.Dec.{eqb};
 ghost use Rattle.state.specs.Bytes.{span};
 ghost use Rattle.state.specs.declared.Verdict.the-variants.{Compatible};
 ghost use Rattle.format.specs.Lists.{same};
@@ -48,6 +49,13 @@ fn compare_field(
         f,
         Verdict::Differs(Section::BLOCKS, part, i, j),
     )
+}
+
+// What lists of block i, or the blocks, come to of which so many entries are left after one has ended.
+fn compare_count(left: usize, right: usize, part: u8, i: usize, j: usize) -> Verdict
+    ensures { λ r. ⌜ r ≡ cond (eqb left right) Compatible (inBlocks part i j) ⌝ }
+{
+    compare_counts(left, right, Verdict::Differs(Section::BLOCKS, part, i, j))
 }
 
 // Keys, classes, kinds, revisions and state lengths of block i, at p and q.
@@ -140,11 +148,7 @@ fn compare_port_bindings(s: &[u8], t: &[u8], part: u8, a: usize, b: usize, i: us
         right -= 1;
         j += 1;
     }
-    compare_counts(
-        left,
-        right,
-        Verdict::Differs(Section::BLOCKS, part + 1, i, j),
-    )
+    compare_count(left, right, part + 1, i, j)
 }
 
 // The inputs of block i, which stand at a and b, then its outputs.
@@ -176,13 +180,9 @@ pub fn compare_blocks(s: &[u8], t: &[u8], a: usize, b: usize) -> Verdict
     let mut p = ahead(s, a, 4);
     let mut q = ahead(t, b, 4);
     let mut i = 0;
-    let verdict = 'blocks: loop {
+    'blocks: loop {
         if !both_left(left, right) {
-            break 'blocks compare_counts(
-                left,
-                right,
-                Verdict::Differs(Section::BLOCKS, Part::ENTRY_COUNT, i, 0),
-            );
+            break 'blocks compare_count(left, right, Part::ENTRY_COUNT, i, 0);
         }
         let head = compare_heads(s, t, p, q, i);
         let Verdict::Compatible = head else {
@@ -206,11 +206,7 @@ pub fn compare_blocks(s: &[u8], t: &[u8], a: usize, b: usize) -> Verdict
             n -= 1;
             j += 1;
         }
-        let count = compare_counts(
-            m,
-            n,
-            Verdict::Differs(Section::BLOCKS, Part::PARAMETER_COUNT, i, j),
-        );
+        let count = compare_count(m, n, Part::PARAMETER_COUNT, i, j);
         let Verdict::Compatible = count else {
             break 'blocks count;
         };
@@ -223,6 +219,5 @@ pub fn compare_blocks(s: &[u8], t: &[u8], a: usize, b: usize) -> Verdict
         left -= 1;
         right -= 1;
         i += 1;
-    };
-    verdict
+    }
 }

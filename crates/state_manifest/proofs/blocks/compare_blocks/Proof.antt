@@ -45,8 +45,8 @@ blocks2-holds c = walk-start _ _ (c .before .before .before .before .before .bef
 both-left-requires : tie.Need-both-left-requires Inv-loop μ-loop Inv-blocks2 μ-blocks2
 both-left-requires c κs = search needs
 
-compare-counts-requires : tie.Need-compare-counts-requires Inv-loop μ-loop Inv-blocks2 μ-blocks2
-compare-counts-requires c κs = search needs
+compare-count-requires : tie.Need-compare-count-requires Inv-loop μ-loop Inv-blocks2 μ-blocks2
+compare-count-requires c κs = search needs
 
 compare-heads-requires : tie.Need-compare-heads-requires Inv-loop μ-loop Inv-blocks2 μ-blocks2
 compare-heads-requires c κs = walk-both (c .before .before .blocks2 .inv) (c .before .both-left .ensures) (not-false _ (c .if1 .left))
@@ -74,7 +74,18 @@ ahead-requires-4 c κs = search needs
 
 loop-holds : tie.Need-loop-holds Inv-loop μ-loop Inv-blocks2 μ-blocks2
 unfolding paramsVerdict params
-loop-holds c = walk-start 6 (late plain) (params-both _ _ _ _ (c .before .before .before .before .before .parameters-at .ensures) (c .before .before .before .before .parameters-at2 .ensures) (walk-both (c .before .before .before .before .before .before .before .before .before .before .before .blocks2 .inv) (c .before .before .before .before .before .before .before .before .before .before .both-left .ensures) (not-false _ (c .before .before .before .before .before .before .before .before .before .if1 .left)))) (search needs) (c .before .before .before .count-at3 .ensures) (c .before .before .count-at4 .ensures) (c .before .ahead3 .ensures) (c .ahead4 .ensures)
+loop-holds c =
+    let ahead3 = c .before in
+    let count-at4 = ahead3 .before in
+    let count-at3 = count-at4 .before in
+    let parameters-at2 = count-at3 .before in
+    let parameters-at = parameters-at2 .before in
+    let if1 = parameters-at .before .before .before .before in
+    let both-left = if1 .before in
+    let blocks2 = both-left .before in
+    let b = walk-both (blocks2 .blocks2 .inv) (both-left .both-left .ensures) (not-false _ (if1 .if1 .left)) in
+    walk-start 6 (late plain) (params-both _ _ _ _ (parameters-at .parameters-at .ensures) (parameters-at2 .parameters-at2 .ensures) b) (search needs)
+    (count-at3 .count-at3 .ensures) (count-at4 .count-at4 .ensures) (ahead3 .ahead3 .ensures) (c .ahead4 .ensures)
 
 both-left-requires-2 : tie.Need-both-left-requires-2 Inv-loop μ-loop Inv-blocks2 μ-blocks2
 both-left-requires-2 c κs = search needs
@@ -99,30 +110,67 @@ value-end-requires-2 : tie.Need-value-end-requires-2 Inv-loop μ-loop Inv-blocks
 value-end-requires-2 c κs = search needs
 
 sub-m : tie.Need-sub-m Inv-loop μ-loop Inv-blocks2 μ-blocks2
-sub-m c = some-left (c .before .before .before .before .before .before .before .before .before .loop .inv) (c .before .before .before .before .before .before .before .before .both-left2 .ensures) (c .before .before .before .before .before .before .before .if2 .taken) .0
+sub-m c =
+    let if2 = c .before .before .before .before .before .before .before in
+    let both-left2 = if2 .before in
+    let inner = both-left2 .before in
+    some-left (inner .loop .inv) (both-left2 .both-left2 .ensures) (if2 .if2 .taken) .0
 
 sub-n : tie.Need-sub-n Inv-loop μ-loop Inv-blocks2 μ-blocks2
-sub-n c = some-left (c .before .before .before .before .before .before .before .before .before .loop .inv) (c .before .before .before .before .before .before .before .before .both-left2 .ensures) (c .before .before .before .before .before .before .before .if2 .taken) .1
+sub-n c =
+    let if2 = c .before .before .before .before .before .before .before in
+    let both-left2 = if2 .before in
+    let inner = both-left2 .before in
+    some-left (inner .loop .inv) (both-left2 .both-left2 .ensures) (if2 .if2 .taken) .1
 
 add-j : tie.Need-add-j Inv-loop μ-loop Inv-blocks2 μ-blocks2
-add-j c = record { fits = walk-fits (c .before .before .before .before .before .before .before .before .before .loop .inv) (c .before .before .before .before .before .before .before .before .both-left2 .ensures) (c .before .before .before .before .before .before .before .if2 .taken) }
+add-j c =
+    let if2 = c .before .before .before .before .before .before .before in
+    let both-left2 = if2 .before in
+    let inner = both-left2 .before in
+    record { fits = walk-fits (inner .loop .inv) (both-left2 .both-left2 .ensures) (if2 .if2 .taken) }
 
 loop-less : tie.Need-loop-less Inv-loop μ-loop Inv-blocks2 μ-blocks2
-loop-less c = omega (arith, some-left (c .before .before .before .before .before .before .before .before .before .loop .inv) (c .before .before .before .before .before .before .before .before .both-left2 .ensures) (c .before .before .before .before .before .before .before .if2 .taken) .0)
+loop-less c =
+    let if2 = c .before .before .before .before .before .before .before in
+    let both-left2 = if2 .before in
+    let inner = both-left2 .before in
+    omega (arith, some-left (inner .loop .inv) (both-left2 .both-left2 .ensures) (if2 .if2 .taken) .0)
 
 loop-again : tie.Need-loop-again Inv-loop μ-loop Inv-blocks2 μ-blocks2
 unfolding past
-loop-again c = walk-next (c .before .before .before .before .before .before .before .before .before .loop .inv) (c .before .before .before .before .before .before .before .before .both-left2 .ensures) (c .before .before .before .before .before .before .before .if2 .taken) (c .before .before .before .before .before .before .compare-parameter .ensures) (c .before .before .before .before .enum-told2 .given .1) (c .before .before .value-end .ensures ∙ ap (past value _) (c .before .before .before .text-end .ensures)) (c .value-end2 .ensures ∙ ap (past value _) (c .before .text-end2 .ensures))
+loop-again c =
+    let text-end2 = c .before in
+    let value-end = text-end2 .before in
+    let text-end = value-end .before in
+    let enum-told2 = text-end .before in
+    let compare-parameter = enum-told2 .before .before in
+    let if2 = compare-parameter .before in
+    let both-left2 = if2 .before in
+    let inner = both-left2 .before in
+    walk-next (inner .loop .inv) (both-left2 .both-left2 .ensures) (if2 .if2 .taken) (compare-parameter .compare-parameter .ensures) (enum-told2 .enum-told2 .given .1)
+    (value-end .value-end .ensures ∙ ap (past value _) (text-end .text-end .ensures)) (c .value-end2 .ensures ∙ ap (past value _) (text-end2 .text-end2 .ensures))
 
-compare-counts-requires-2 :
-    tie.Need-compare-counts-requires-2 Inv-loop μ-loop Inv-blocks2 μ-blocks2
-compare-counts-requires-2 c κs = search needs
+compare-count-requires-2 :
+    tie.Need-compare-count-requires-2 Inv-loop μ-loop Inv-blocks2 μ-blocks2
+compare-count-requires-2 c κs = search needs
 
 enum-told-3 : tie.Need-enum-told-3 Inv-loop μ-loop Inv-blocks2 μ-blocks2
 enum-told-3 c = search needs
 
 compare-ports-requires : tie.Need-compare-ports-requires Inv-loop μ-loop Inv-blocks2 μ-blocks2
-compare-ports-requires c κs = let e = (walk-ended (c .before .before .before .before .before .loop .inv) (c .before .before .before .before .both-left2 .ensures) (c .before .before .before .if2 .left) (c .before .before .compare-counts2 .ensures) (λ z. no-difference (sym z)) (c .enum-told3 .given .1)) in ports-both _ _ _ _ (c .before .before .before .before .before .before .before .before .before .before .before .parameters-at .ensures) (c .before .before .before .before .before .before .before .before .before .before .parameters-at2 .ensures) (e .0) (e .1) (walk-both (c .before .before .before .before .before .before .before .before .before .before .before .before .before .before .before .before .before .blocks2 .inv) (c .before .before .before .before .before .before .before .before .before .before .before .before .before .before .before .before .both-left .ensures) (not-false _ (c .before .before .before .before .before .before .before .before .before .before .before .before .before .before .before .if1 .left)))
+compare-ports-requires c κs =
+    let compare-count2 = c .before .before in
+    let if2 = compare-count2 .before in
+    let both-left2 = if2 .before in
+    let inner = both-left2 .before in
+    let parameters-at2 = inner .before .before .before .before .before in
+    let parameters-at = parameters-at2 .before in
+    let if1 = parameters-at .before .before .before .before in
+    let both-left = if1 .before in
+    let blocks2 = both-left .before in
+    let e = walk-ended (inner .loop .inv) (both-left2 .both-left2 .ensures) (if2 .if2 .left) (compare-count2 .compare-count2 .ensures) (λ z. no-difference (sym z)) (c .enum-told3 .given .1) in
+    ports-both _ _ _ _ (parameters-at .parameters-at .ensures) (parameters-at2 .parameters-at2 .ensures) (e .0) (e .1) (walk-both (blocks2 .blocks2 .inv) (both-left .both-left .ensures) (not-false _ (if1 .if1 .left)))
 
 enum-told-4 : tie.Need-enum-told-4 Inv-loop μ-loop Inv-blocks2 μ-blocks2
 enum-told-4 c = search needs
@@ -144,34 +192,131 @@ connector-keys-end-requires-4 :
 connector-keys-end-requires-4 c κs = search needs
 
 sub-left : tie.Need-sub-left Inv-loop μ-loop Inv-blocks2 μ-blocks2
-sub-left c = some-left (c .before .before .before .before .before .before .before .before .before .before .before .before .before .before .before .before .before .before .before .before .before .before .before .before .blocks2 .inv) (c .before .before .before .before .before .before .before .before .before .before .before .before .before .before .before .before .before .before .before .before .before .before .before .both-left .ensures) (not-false _ (c .before .before .before .before .before .before .before .before .before .before .before .before .before .before .before .before .before .before .before .before .before .before .if1 .left)) .0
+sub-left c =
+    let if1 = c .before .before .before .before .before .before .before .before .before .before .before .before .before .before .before .before .before .before .before .before .before .before in
+    let both-left = if1 .before in
+    let blocks2 = both-left .before in
+    some-left (blocks2 .blocks2 .inv) (both-left .both-left .ensures) (not-false _ (if1 .if1 .left)) .0
 
 sub-right : tie.Need-sub-right Inv-loop μ-loop Inv-blocks2 μ-blocks2
-sub-right c = some-left (c .before .before .before .before .before .before .before .before .before .before .before .before .before .before .before .before .before .before .before .before .before .before .before .before .blocks2 .inv) (c .before .before .before .before .before .before .before .before .before .before .before .before .before .before .before .before .before .before .before .before .before .before .before .both-left .ensures) (not-false _ (c .before .before .before .before .before .before .before .before .before .before .before .before .before .before .before .before .before .before .before .before .before .before .if1 .left)) .1
+sub-right c =
+    let if1 = c .before .before .before .before .before .before .before .before .before .before .before .before .before .before .before .before .before .before .before .before .before .before in
+    let both-left = if1 .before in
+    let blocks2 = both-left .before in
+    some-left (blocks2 .blocks2 .inv) (both-left .both-left .ensures) (not-false _ (if1 .if1 .left)) .1
 
 add-i : tie.Need-add-i Inv-loop μ-loop Inv-blocks2 μ-blocks2
-add-i c = record { fits = walk-fits (c .before .before .before .before .before .before .before .before .before .before .before .before .before .before .before .before .before .before .before .before .before .before .before .before .blocks2 .inv) (c .before .before .before .before .before .before .before .before .before .before .before .before .before .before .before .before .before .before .before .before .before .before .before .both-left .ensures) (not-false _ (c .before .before .before .before .before .before .before .before .before .before .before .before .before .before .before .before .before .before .before .before .before .before .if1 .left)) }
+add-i c =
+    let if1 = c .before .before .before .before .before .before .before .before .before .before .before .before .before .before .before .before .before .before .before .before .before .before in
+    let both-left = if1 .before in
+    let blocks2 = both-left .before in
+    record { fits = walk-fits (blocks2 .blocks2 .inv) (both-left .both-left .ensures) (not-false _ (if1 .if1 .left)) }
 
 blocks2-less : tie.Need-blocks2-less Inv-loop μ-loop Inv-blocks2 μ-blocks2
-blocks2-less c = omega (arith, some-left (c .before .before .before .before .before .before .before .before .before .before .before .before .before .before .before .before .before .before .before .before .before .before .before .before .blocks2 .inv) (c .before .before .before .before .before .before .before .before .before .before .before .before .before .before .before .before .before .before .before .before .before .before .before .both-left .ensures) (not-false _ (c .before .before .before .before .before .before .before .before .before .before .before .before .before .before .before .before .before .before .before .before .before .before .if1 .left)) .0)
+blocks2-less c =
+    let if1 = c .before .before .before .before .before .before .before .before .before .before .before .before .before .before .before .before .before .before .before .before .before .before in
+    let both-left = if1 .before in
+    let blocks2 = both-left .before in
+    omega (arith, some-left (blocks2 .blocks2 .inv) (both-left .both-left .ensures) (not-false _ (if1 .if1 .left)) .0)
 
 blocks2-again : tie.Need-blocks2-again Inv-loop μ-loop Inv-blocks2 μ-blocks2
-blocks2-again c = let e = (walk-ended (c .before .before .before .before .before .before .before .before .before .before .before .before .loop .inv) (c .before .before .before .before .before .before .before .before .before .before .before .both-left2 .ensures) (c .before .before .before .before .before .before .before .before .before .before .if2 .left) (c .before .before .before .before .before .before .before .before .before .compare-counts2 .ensures) (λ z. no-difference (sym z)) (c .before .before .before .before .before .before .before .enum-told3 .given .1)) in let z = block-past _ _ _ _ (c .before .before .before .before .before .before .before .before .before .before .before .before .before .before .before .before .before .before .parameters-at .ensures) (c .before .before .before .before .before .before .before .before .before .before .before .before .before .before .before .before .before .parameters-at2 .ensures) (e .0) (e .1) (c .before .before .before .connector-keys-end .ensures) (c .before .before .connector-keys-end2 .ensures) (c .before .connector-keys-end3 .ensures) (c .connector-keys-end4 .ensures) in walk-next (c .before .before .before .before .before .before .before .before .before .before .before .before .before .before .before .before .before .before .before .before .before .before .before .before .blocks2 .inv) (c .before .before .before .before .before .before .before .before .before .before .before .before .before .before .before .before .before .before .before .before .before .before .before .both-left .ensures) (not-false _ (c .before .before .before .before .before .before .before .before .before .before .before .before .before .before .before .before .before .before .before .before .before .before .if1 .left)) (let e = (walk-ended (c .before .before .before .before .before .before .before .before .before .before .before .before .loop .inv) (c .before .before .before .before .before .before .before .before .before .before .before .both-left2 .ensures) (c .before .before .before .before .before .before .before .before .before .before .if2 .left) (c .before .before .before .before .before .before .before .before .before .compare-counts2 .ensures) (λ z. no-difference (sym z)) (c .before .before .before .before .before .before .before .enum-told3 .given .1)) in or-next (c .before .before .before .before .before .before .before .before .before .before .before .before .before .before .before .before .before .before .before .before .before .compare-heads .ensures) (c .before .before .before .before .before .before .before .before .before .before .before .before .before .before .before .before .before .before .before .enum-told .given .1) (or-next (walk-end (c .before .before .before .before .before .before .before .before .before .before .before .before .loop .inv) (c .before .before .before .before .before .before .before .before .before .before .before .both-left2 .ensures) (c .before .before .before .before .before .before .before .before .before .before .if2 .left) (c .before .before .before .before .before .before .before .before .before .compare-counts2 .ensures)) (c .before .before .before .before .before .before .before .enum-told3 .given .1) (c .before .before .before .before .before .before .compare-ports .ensures)) ∙ block-is _ _ _ _ (c .before .before .before .before .before .before .before .before .before .before .before .before .before .before .before .before .before .before .parameters-at .ensures) (c .before .before .before .before .before .before .before .before .before .before .before .before .before .before .before .before .before .parameters-at2 .ensures) (e .0) (e .1) _) (c .before .before .before .before .enum-told4 .given .1) (z .0) (z .1)
+blocks2-again c =
+    let connector-keys-end3 = c .before in
+    let connector-keys-end2 = connector-keys-end3 .before in
+    let connector-keys-end = connector-keys-end2 .before in
+    let enum-told4 = connector-keys-end .before in
+    let compare-ports = enum-told4 .before .before in
+    let enum-told3 = compare-ports .before in
+    let compare-count2 = enum-told3 .before .before in
+    let if2 = compare-count2 .before in
+    let both-left2 = if2 .before in
+    let inner = both-left2 .before in
+    let parameters-at2 = inner .before .before .before .before .before in
+    let parameters-at = parameters-at2 .before in
+    let enum-told = parameters-at .before in
+    let compare-heads = enum-told .before .before in
+    let if1 = compare-heads .before in
+    let both-left = if1 .before in
+    let blocks2 = both-left .before in
+    let e = walk-ended (inner .loop .inv) (both-left2 .both-left2 .ensures) (if2 .if2 .left) (compare-count2 .compare-count2 .ensures) (λ z. no-difference (sym z)) (enum-told3 .enum-told3 .given .1) in
+    let z = block-past _ _ _ _ (parameters-at .parameters-at .ensures) (parameters-at2 .parameters-at2 .ensures) (e .0) (e .1) (connector-keys-end .connector-keys-end .ensures) (connector-keys-end2 .connector-keys-end2 .ensures) (connector-keys-end3 .connector-keys-end3 .ensures) (c .connector-keys-end4 .ensures) in
+    walk-next (blocks2 .blocks2 .inv) (both-left .both-left .ensures) (not-false _ (if1 .if1 .left))
+    (or-next (compare-heads .compare-heads .ensures) (enum-told .enum-told .given .1)
+    (or-next (walk-end (inner .loop .inv) (both-left2 .both-left2 .ensures) (if2 .if2 .left) (compare-count2 .compare-count2 .ensures)) (enum-told3 .enum-told3 .given .1) (compare-ports .compare-ports .ensures))
+    ∙ block-is _ _ _ _ (parameters-at .parameters-at .ensures) (parameters-at2 .parameters-at2 .ensures) (e .0) (e .1) _)
+    (enum-told4 .enum-told4 .given .1) (z .0) (z .1)
 
 returns : tie.Need-returns Inv-loop μ-loop Inv-blocks2 μ-blocks2
-returns c = walk-end (c .before .before .before .blocks2 .inv) (c .before .before .both-left .ensures) (not-true _ (c .before .if1 .taken)) (c .compare-counts .ensures)
+returns c = walk-end (c .before .before .before .blocks2 .inv) (c .before .before .both-left .ensures) (not-true _ (c .before .if1 .taken)) (c .compare-count .ensures)
 
 returns-2 : tie.Need-returns-2 Inv-loop μ-loop Inv-blocks2 μ-blocks2
-returns-2 c = walk-found (c .before .before .before .before .blocks2 .inv) (c .before .before .before .both-left .ensures) (not-false _ (c .before .before .if1 .left)) (or-found _ (c .before .compare-heads .ensures) (not-compatible _ (c .match .keys2)) ∙ block-is _ _ _ _ refl refl refl refl _) (not-compatible _ (c .match .keys2))
+returns-2 c =
+    let compare-heads = c .before in
+    let if1 = compare-heads .before in
+    let both-left = if1 .before in
+    let blocks2 = both-left .before in
+    let o = not-compatible _ (c .match .keys2) in
+    walk-found (blocks2 .blocks2 .inv) (both-left .both-left .ensures) (not-false _ (if1 .if1 .left)) (or-found _ (compare-heads .compare-heads .ensures) o ∙ block-is _ _ _ _ refl refl refl refl _) o
 
 returns-3 : tie.Need-returns-3 Inv-loop μ-loop Inv-blocks2 μ-blocks2
-returns-3 c = walk-found (c .before .before .before .before .before .before .before .before .before .before .before .before .before .before .before .before .blocks2 .inv) (c .before .before .before .before .before .before .before .before .before .before .before .before .before .before .before .both-left .ensures) (not-false _ (c .before .before .before .before .before .before .before .before .before .before .before .before .before .before .if1 .left)) (or-next (c .before .before .before .before .before .before .before .before .before .before .before .before .before .compare-heads .ensures) (c .before .before .before .before .before .before .before .before .before .before .before .enum-told .given .1) (or-found _ (walk-found (c .before .before .before .before .loop .inv) (c .before .before .before .both-left2 .ensures) (c .before .before .if2 .taken) (c .before .compare-parameter .ensures) (not-compatible _ (c .match2 .keys2))) (not-compatible _ (c .match2 .keys2))) ∙ block-is _ _ _ _ (c .before .before .before .before .before .before .before .before .before .before .parameters-at .ensures) (c .before .before .before .before .before .before .before .before .before .parameters-at2 .ensures) refl refl _) (not-compatible _ (c .match2 .keys2))
+returns-3 c =
+    let compare-parameter = c .before in
+    let if2 = compare-parameter .before in
+    let both-left2 = if2 .before in
+    let inner = both-left2 .before in
+    let parameters-at2 = inner .before .before .before .before .before in
+    let parameters-at = parameters-at2 .before in
+    let enum-told = parameters-at .before in
+    let compare-heads = enum-told .before .before in
+    let if1 = compare-heads .before in
+    let both-left = if1 .before in
+    let blocks2 = both-left .before in
+    let o = not-compatible _ (c .match2 .keys2) in
+    walk-found (blocks2 .blocks2 .inv) (both-left .both-left .ensures) (not-false _ (if1 .if1 .left))
+    (or-next (compare-heads .compare-heads .ensures) (enum-told .enum-told .given .1)
+    (or-found _ (walk-found (inner .loop .inv) (both-left2 .both-left2 .ensures) (if2 .if2 .taken) (compare-parameter .compare-parameter .ensures) o) o)
+    ∙ block-is _ _ _ _ (parameters-at .parameters-at .ensures) (parameters-at2 .parameters-at2 .ensures) refl refl _) o
 
 returns-4 : tie.Need-returns-4 Inv-loop μ-loop Inv-blocks2 μ-blocks2
-returns-4 c = walk-found (c .before .before .before .before .before .before .before .before .before .before .before .before .before .before .before .before .blocks2 .inv) (c .before .before .before .before .before .before .before .before .before .before .before .before .before .before .before .both-left .ensures) (not-false _ (c .before .before .before .before .before .before .before .before .before .before .before .before .before .before .if1 .left)) (or-next (c .before .before .before .before .before .before .before .before .before .before .before .before .before .compare-heads .ensures) (c .before .before .before .before .before .before .before .before .before .before .before .enum-told .given .1) (or-found _ (walk-end (c .before .before .before .before .loop .inv) (c .before .before .before .both-left2 .ensures) (c .before .before .if2 .left) (c .before .compare-counts2 .ensures)) (not-compatible _ (c .match3 .keys2))) ∙ block-is _ _ _ _ (c .before .before .before .before .before .before .before .before .before .before .parameters-at .ensures) (c .before .before .before .before .before .before .before .before .before .parameters-at2 .ensures) refl refl _) (not-compatible _ (c .match3 .keys2))
+returns-4 c =
+    let compare-count2 = c .before in
+    let if2 = compare-count2 .before in
+    let both-left2 = if2 .before in
+    let inner = both-left2 .before in
+    let parameters-at2 = inner .before .before .before .before .before in
+    let parameters-at = parameters-at2 .before in
+    let enum-told = parameters-at .before in
+    let compare-heads = enum-told .before .before in
+    let if1 = compare-heads .before in
+    let both-left = if1 .before in
+    let blocks2 = both-left .before in
+    let o = not-compatible _ (c .match3 .keys2) in
+    walk-found (blocks2 .blocks2 .inv) (both-left .both-left .ensures) (not-false _ (if1 .if1 .left))
+    (or-next (compare-heads .compare-heads .ensures) (enum-told .enum-told .given .1)
+    (or-found _ (walk-end (inner .loop .inv) (both-left2 .both-left2 .ensures) (if2 .if2 .left) (compare-count2 .compare-count2 .ensures)) o)
+    ∙ block-is _ _ _ _ (parameters-at .parameters-at .ensures) (parameters-at2 .parameters-at2 .ensures) refl refl _) o
 
 returns-5 : tie.Need-returns-5 Inv-loop μ-loop Inv-blocks2 μ-blocks2
-returns-5 c = walk-found (c .before .before .before .before .before .before .before .before .before .before .before .before .before .before .before .before .before .before .before .blocks2 .inv) (c .before .before .before .before .before .before .before .before .before .before .before .before .before .before .before .before .before .before .both-left .ensures) (not-false _ (c .before .before .before .before .before .before .before .before .before .before .before .before .before .before .before .before .before .if1 .left)) (let e = (walk-ended (c .before .before .before .before .before .before .before .loop .inv) (c .before .before .before .before .before .before .both-left2 .ensures) (c .before .before .before .before .before .if2 .left) (c .before .before .before .before .compare-counts2 .ensures) (λ z. no-difference (sym z)) (c .before .before .enum-told3 .given .1)) in or-next (c .before .before .before .before .before .before .before .before .before .before .before .before .before .before .before .before .compare-heads .ensures) (c .before .before .before .before .before .before .before .before .before .before .before .before .before .before .enum-told .given .1) (or-next (walk-end (c .before .before .before .before .before .before .before .loop .inv) (c .before .before .before .before .before .before .both-left2 .ensures) (c .before .before .before .before .before .if2 .left) (c .before .before .before .before .compare-counts2 .ensures)) (c .before .before .enum-told3 .given .1) (c .before .compare-ports .ensures)) ∙ block-is _ _ _ _ (c .before .before .before .before .before .before .before .before .before .before .before .before .before .parameters-at .ensures) (c .before .before .before .before .before .before .before .before .before .before .before .before .parameters-at2 .ensures) (e .0) (e .1) _) (not-compatible _ (c .match4 .keys2))
+returns-5 c =
+    let compare-ports = c .before in
+    let enum-told3 = compare-ports .before in
+    let compare-count2 = enum-told3 .before .before in
+    let if2 = compare-count2 .before in
+    let both-left2 = if2 .before in
+    let inner = both-left2 .before in
+    let parameters-at2 = inner .before .before .before .before .before in
+    let parameters-at = parameters-at2 .before in
+    let enum-told = parameters-at .before in
+    let compare-heads = enum-told .before .before in
+    let if1 = compare-heads .before in
+    let both-left = if1 .before in
+    let blocks2 = both-left .before in
+    let e = walk-ended (inner .loop .inv) (both-left2 .both-left2 .ensures) (if2 .if2 .left) (compare-count2 .compare-count2 .ensures) (λ z. no-difference (sym z)) (enum-told3 .enum-told3 .given .1) in
+    walk-found (blocks2 .blocks2 .inv) (both-left .both-left .ensures) (not-false _ (if1 .if1 .left))
+    (or-next (compare-heads .compare-heads .ensures) (enum-told .enum-told .given .1)
+    (or-next (walk-end (inner .loop .inv) (both-left2 .both-left2 .ensures) (if2 .if2 .left) (compare-count2 .compare-count2 .ensures)) (enum-told3 .enum-told3 .given .1) (compare-ports .compare-ports .ensures))
+    ∙ block-is _ _ _ _ (parameters-at .parameters-at .ensures) (parameters-at2 .parameters-at2 .ensures) (e .0) (e .1) _)
+    (not-compatible _ (c .match4 .keys2))
 
 pub compare-blocks-spec : {M : Type 1} → statement M
 compare-blocks-spec =
@@ -187,7 +332,7 @@ compare-blocks-spec =
     ahead-requires-2
     blocks2-holds
     both-left-requires
-    compare-counts-requires
+    compare-count-requires
     compare-heads-requires
     enum-told
     parameters-at-requires
@@ -209,7 +354,7 @@ compare-blocks-spec =
     add-j
     loop-less
     loop-again
-    compare-counts-requires-2
+    compare-count-requires-2
     enum-told-3
     compare-ports-requires
     enum-told-4

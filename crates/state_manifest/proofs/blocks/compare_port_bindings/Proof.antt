@@ -51,32 +51,68 @@ enum-told c = search needs
 
 returns : tie.Need-returns Inv-loop μ-loop
 unfolding valueAt
-returns c = let w = c .before .before .before .before .before .before .loop .inv in let b = both-first connectorKey done (walk-both w (c .before .before .before .before .before .both-left .ensures) (c .before .before .before .before .if1 .taken)) in walk-found w (c .before .before .before .before .before .both-left .ensures) (c .before .before .before .before .if1 .taken) (field-is connectorKey _ b (c .before .before .before .connector-key-end .ensures) (c .before .before .connector-key-end2 .ensures) (c .before .compare-field .ensures)) (not-compatible _ (c .match .keys2))
+returns c =
+    let compare-field = c .before in
+    let connector-key-end2 = compare-field .before in
+    let connector-key-end = connector-key-end2 .before in
+    let if1 = connector-key-end .before in
+    let both-left = if1 .before in
+    let inner = both-left .before in
+    let w = inner .loop .inv in
+    let b = both-first connectorKey done (walk-both w (both-left .both-left .ensures) (if1 .if1 .taken)) in
+    walk-found w (both-left .both-left .ensures) (if1 .if1 .taken) (field-is connectorKey _ b (connector-key-end .connector-key-end .ensures) (connector-key-end2 .connector-key-end2 .ensures) (compare-field .compare-field .ensures))
+    (not-compatible _ (c .match .keys2))
 
 sub-left : tie.Need-sub-left Inv-loop μ-loop
-sub-left c = some-left (c .before .before .before .before .before .before .before .loop .inv) (c .before .before .before .before .before .before .both-left .ensures) (c .before .before .before .before .before .if1 .taken) .0
+sub-left c =
+    let if1 = c .before .before .before .before .before in
+    let both-left = if1 .before in
+    let inner = both-left .before in
+    some-left (inner .loop .inv) (both-left .both-left .ensures) (if1 .if1 .taken) .0
 
 sub-right : tie.Need-sub-right Inv-loop μ-loop
-sub-right c = some-left (c .before .before .before .before .before .before .before .loop .inv) (c .before .before .before .before .before .before .both-left .ensures) (c .before .before .before .before .before .if1 .taken) .1
+sub-right c =
+    let if1 = c .before .before .before .before .before in
+    let both-left = if1 .before in
+    let inner = both-left .before in
+    some-left (inner .loop .inv) (both-left .both-left .ensures) (if1 .if1 .taken) .1
 
 add-j : tie.Need-add-j Inv-loop μ-loop
-add-j c = record { fits = walk-fits (c .before .before .before .before .before .before .before .loop .inv) (c .before .before .before .before .before .before .both-left .ensures) (c .before .before .before .before .before .if1 .taken) }
+add-j c =
+    let if1 = c .before .before .before .before .before in
+    let both-left = if1 .before in
+    let inner = both-left .before in
+    record { fits = walk-fits (inner .loop .inv) (both-left .both-left .ensures) (if1 .if1 .taken) }
 
 loop-less : tie.Need-loop-less Inv-loop μ-loop
-loop-less c = omega (arith, some-left (c .before .before .before .before .before .before .before .loop .inv) (c .before .before .before .before .before .before .both-left .ensures) (c .before .before .before .before .before .if1 .taken) .0)
+loop-less c =
+    let if1 = c .before .before .before .before .before in
+    let both-left = if1 .before in
+    let inner = both-left .before in
+    omega (arith, some-left (inner .loop .inv) (both-left .both-left .ensures) (if1 .if1 .taken) .0)
 
 loop-again : tie.Need-loop-again Inv-loop μ-loop
 unfolding valueAt past
-loop-again c = let w = c .before .before .before .before .before .before .before .loop .inv in let b = both-first connectorKey done (walk-both w (c .before .before .before .before .before .before .both-left .ensures) (c .before .before .before .before .before .if1 .taken)) in walk-next w (c .before .before .before .before .before .before .both-left .ensures) (c .before .before .before .before .before .if1 .taken) (field-is connectorKey _ b (c .before .before .before .before .connector-key-end .ensures) (c .before .before .before .connector-key-end2 .ensures) (c .before .before .compare-field .ensures)) (c .enum-told .given .1) (c .before .before .before .before .connector-key-end .ensures) (c .before .before .before .connector-key-end2 .ensures)
+loop-again c =
+    let compare-field = c .before .before in
+    let connector-key-end2 = compare-field .before in
+    let connector-key-end = connector-key-end2 .before in
+    let if1 = connector-key-end .before in
+    let both-left = if1 .before in
+    let inner = both-left .before in
+    let w = inner .loop .inv in
+    let b = both-first connectorKey done (walk-both w (both-left .both-left .ensures) (if1 .if1 .taken)) in
+    walk-next w (both-left .both-left .ensures) (if1 .if1 .taken) (field-is connectorKey _ b (connector-key-end .connector-key-end .ensures) (connector-key-end2 .connector-key-end2 .ensures) (compare-field .compare-field .ensures))
+    (c .enum-told .given .1) (connector-key-end .connector-key-end .ensures) (connector-key-end2 .connector-key-end2 .ensures)
 
-add-t16 : tie.Need-add-t16 Inv-loop μ-loop
-add-t16 c = record { fits = omega (arith, c .before .before .before .before .before .before .before .before .before .pre .1) }
+add-compare-count : tie.Need-add-compare-count Inv-loop μ-loop
+add-compare-count c = record { fits = omega (arith, c .before .before .before .before .before .before .before .before .before .pre .1) }
 
-compare-counts-requires : tie.Need-compare-counts-requires Inv-loop μ-loop
-compare-counts-requires c κs = search needs
+compare-count-requires : tie.Need-compare-count-requires Inv-loop μ-loop
+compare-count-requires c κs = search needs
 
 returns-2 : tie.Need-returns-2 Inv-loop μ-loop
-returns-2 c = walk-end (c .before .before .before .loop .inv) (c .before .before .both-left .ensures) (c .before .if1 .left) (c .compare-counts .ensures)
+returns-2 c = walk-end (c .before .before .before .loop .inv) (c .before .before .both-left .ensures) (c .before .if1 .left) (c .compare-count .ensures)
 
 pub compare-port-bindings-spec : {M : Type 1} → statement M
 compare-port-bindings-spec =
@@ -100,6 +136,6 @@ compare-port-bindings-spec =
     add-j
     loop-less
     loop-again
-    add-t16
-    compare-counts-requires
+    add-compare-count
+    compare-count-requires
     returns-2)

@@ -47,22 +47,60 @@ enum-told : tie.Need-enum-told Inv-loop μ-loop
 enum-told c = search needs
 
 returns : tie.Need-returns Inv-loop μ-loop
-returns c = let w = c .before .before .before .before .before .before .loop .inv in walk-found w (c .before .before .before .before .before .both-left .ensures) (c .before .before .before .before .if1 .taken) (field-is (entry (named (c .before .before .before .before .before .before .before .before .before .before .before .before .before .args .section))) _ (walk-both w (c .before .before .before .before .before .both-left .ensures) (c .before .before .before .before .if1 .taken)) (c .before .before .before .named-end .ensures) (c .before .before .named-end2 .ensures) (c .before .compare-part .ensures)) (not-compatible _ (c .match .keys2))
+returns c =
+    let compare-part = c .before in
+    let named-end2 = compare-part .before in
+    let named-end = named-end2 .before in
+    let if1 = named-end .before in
+    let both-left = if1 .before in
+    let inner = both-left .before in
+    let start = inner .before .before .before .before .before .before .before in
+    let w = inner .loop .inv in
+    let b = walk-both w (both-left .both-left .ensures) (if1 .if1 .taken) in
+    walk-found w (both-left .both-left .ensures) (if1 .if1 .taken) (field-is (entry (named (start .args .section))) _ b (named-end .named-end .ensures) (named-end2 .named-end2 .ensures) (compare-part .compare-part .ensures))
+    (not-compatible _ (c .match .keys2))
 
 sub-left : tie.Need-sub-left Inv-loop μ-loop
-sub-left c = some-left (c .before .before .before .before .before .before .before .loop .inv) (c .before .before .before .before .before .before .both-left .ensures) (c .before .before .before .before .before .if1 .taken) .0
+sub-left c =
+    let if1 = c .before .before .before .before .before in
+    let both-left = if1 .before in
+    let inner = both-left .before in
+    some-left (inner .loop .inv) (both-left .both-left .ensures) (if1 .if1 .taken) .0
 
 sub-right : tie.Need-sub-right Inv-loop μ-loop
-sub-right c = some-left (c .before .before .before .before .before .before .before .loop .inv) (c .before .before .before .before .before .before .both-left .ensures) (c .before .before .before .before .before .if1 .taken) .1
+sub-right c =
+    let if1 = c .before .before .before .before .before in
+    let both-left = if1 .before in
+    let inner = both-left .before in
+    some-left (inner .loop .inv) (both-left .both-left .ensures) (if1 .if1 .taken) .1
 
 add-i : tie.Need-add-i Inv-loop μ-loop
-add-i c = record { fits = walk-fits (c .before .before .before .before .before .before .before .loop .inv) (c .before .before .before .before .before .before .both-left .ensures) (c .before .before .before .before .before .if1 .taken) }
+add-i c =
+    let if1 = c .before .before .before .before .before in
+    let both-left = if1 .before in
+    let inner = both-left .before in
+    record { fits = walk-fits (inner .loop .inv) (both-left .both-left .ensures) (if1 .if1 .taken) }
 
 loop-less : tie.Need-loop-less Inv-loop μ-loop
-loop-less c = omega (arith, some-left (c .before .before .before .before .before .before .before .loop .inv) (c .before .before .before .before .before .before .both-left .ensures) (c .before .before .before .before .before .if1 .taken) .0)
+loop-less c =
+    let if1 = c .before .before .before .before .before in
+    let both-left = if1 .before in
+    let inner = both-left .before in
+    omega (arith, some-left (inner .loop .inv) (both-left .both-left .ensures) (if1 .if1 .taken) .0)
 
 loop-again : tie.Need-loop-again Inv-loop μ-loop
-loop-again c = let w = c .before .before .before .before .before .before .before .loop .inv in walk-next w (c .before .before .before .before .before .before .both-left .ensures) (c .before .before .before .before .before .if1 .taken) (field-is (entry (named (c .before .before .before .before .before .before .before .before .before .before .before .before .before .before .args .section))) _ (walk-both w (c .before .before .before .before .before .before .both-left .ensures) (c .before .before .before .before .before .if1 .taken)) (c .before .before .before .before .named-end .ensures) (c .before .before .before .named-end2 .ensures) (c .before .before .compare-part .ensures)) (c .enum-told .given .1) (c .before .before .before .before .named-end .ensures) (c .before .before .before .named-end2 .ensures)
+loop-again c =
+    let compare-part = c .before .before in
+    let named-end2 = compare-part .before in
+    let named-end = named-end2 .before in
+    let if1 = named-end .before in
+    let both-left = if1 .before in
+    let inner = both-left .before in
+    let start = inner .before .before .before .before .before .before .before in
+    let w = inner .loop .inv in
+    let b = walk-both w (both-left .both-left .ensures) (if1 .if1 .taken) in
+    walk-next w (both-left .both-left .ensures) (if1 .if1 .taken) (field-is (entry (named (start .args .section))) _ b (named-end .named-end .ensures) (named-end2 .named-end2 .ensures) (compare-part .compare-part .ensures))
+    (c .enum-told .given .1) (named-end .named-end .ensures) (named-end2 .named-end2 .ensures)
 
 compare-counts-requires : tie.Need-compare-counts-requires Inv-loop μ-loop
 compare-counts-requires c κs = search needs

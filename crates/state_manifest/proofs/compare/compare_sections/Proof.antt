@@ -46,10 +46,40 @@ same-bytes-requires : tie.Need-same-bytes-requires Inv-loop μ-loop
 same-bytes-requires c κs = search needs
 
 compare-section-requires : tie.Need-compare-section-requires Inv-loop μ-loop
-compare-section-requires c κs = ((c .before .before .before .before .before .before .before .before .before .loop .inv .from, c .before .before .before .before .before .before .before .before .loop-test .taken), (section-both (c .before .before .before .before .before .before .before .before .before .before .before .before .pre .0) (c .before .before .before .before .before .before .before .before .before .before .before .before .pre .1) (c .before .before .before .before .before .before .before .before .before .loop .inv) (c .before .before .before .before .before .before .before .before .loop-test .taken) (c .before .before .before .before .before .before .before .section-start .ensures) (c .before .before .before .before .before .before .section-start2 .ensures) (c .before .before .before .before .before .section-start3 .ensures) (c .before .before .before .before .section-start4 .ensures), section-apart (c .before .before .before .before .before .before .before .before .before .before .before .before .pre .0) (c .before .before .before .before .before .before .before .before .before .before .before .before .pre .1) (c .before .before .before .before .before .before .before .before .before .loop .inv) (c .before .before .before .before .before .before .before .before .loop-test .taken) (c .before .before .before .before .before .before .before .section-start .ensures) (c .before .before .before .before .before .before .section-start2 .ensures) (c .before .before .before .before .before .section-start3 .ensures) (c .before .before .before .before .section-start4 .ensures) (c .before .same-bytes .ensures ∙ rw (c .before .before .before .part .ensures, c .before .before .part2 .ensures)) (not-true _ (c .if1 .taken))))
+compare-section-requires c κs =
+    let same-bytes = c .before in
+    let part2 = same-bytes .before in
+    let part = part2 .before in
+    let section-start4 = part .before in
+    let section-start3 = section-start4 .before in
+    let section-start2 = section-start3 .before in
+    let section-start = section-start2 .before in
+    let loop-test = section-start .before in
+    let inner = loop-test .before in
+    let start = inner .before .before .before in (
+      (inner .loop .inv .from, loop-test .loop-test .taken),
+      (
+        section-both (start .pre .0) (start .pre .1) (inner .loop .inv) (loop-test .loop-test .taken) (section-start .section-start .ensures) (section-start2 .section-start2 .ensures) (section-start3 .section-start3 .ensures) (section-start4 .section-start4 .ensures),
+        section-apart (start .pre .0) (start .pre .1) (inner .loop .inv) (loop-test .loop-test .taken) (section-start .section-start .ensures) (section-start2 .section-start2 .ensures) (section-start3 .section-start3 .ensures) (section-start4 .section-start4 .ensures)
+            (part .part .ensures) (part2 .part2 .ensures) (same-bytes .same-bytes .ensures) (not-true _ (c .if1 .taken)),
+      ),
+    )
 
 returns : tie.Need-returns Inv-loop μ-loop
-returns c = section-found (c .before .before .before .before .before .before .before .before .before .before .before .before .before .pre .0) (c .before .before .before .before .before .before .before .before .before .before .before .before .before .pre .1) (c .before .before .before .before .before .before .before .before .before .before .loop .inv) (c .before .before .before .before .before .before .before .before .before .loop-test .taken) (c .before .before .before .before .before .before .before .before .section-start .ensures) (c .before .before .before .before .before .before .before .section-start2 .ensures) (c .before .before .before .before .before .before .section-start3 .ensures) (c .before .before .before .before .before .section-start4 .ensures) (c .before .before .same-bytes .ensures ∙ rw (c .before .before .before .before .part .ensures, c .before .before .before .part2 .ensures)) (not-true _ (c .before .if1 .taken)) (c .compare-section .ensures)
+returns c =
+    let if1 = c .before in
+    let same-bytes = if1 .before in
+    let part2 = same-bytes .before in
+    let part = part2 .before in
+    let section-start4 = part .before in
+    let section-start3 = section-start4 .before in
+    let section-start2 = section-start3 .before in
+    let section-start = section-start2 .before in
+    let loop-test = section-start .before in
+    let inner = loop-test .before in
+    let start = inner .before .before .before in
+    section-found (start .pre .0) (start .pre .1) (inner .loop .inv) (loop-test .loop-test .taken) (section-start .section-start .ensures) (section-start2 .section-start2 .ensures) (section-start3 .section-start3 .ensures) (section-start4 .section-start4 .ensures)
+    (part .part .ensures) (part2 .part2 .ensures) (same-bytes .same-bytes .ensures) (not-true _ (if1 .if1 .taken)) (c .compare-section .ensures)
 
 add-k : tie.Need-add-k Inv-loop μ-loop
 add-k c = search needs
@@ -58,7 +88,19 @@ loop-less : tie.Need-loop-less Inv-loop μ-loop
 loop-less c = omega (arith, c .before .before .before .before .before .before .before .before .before .loop .inv .to)
 
 loop-again : tie.Need-loop-again Inv-loop μ-loop
-loop-again c = section-same (c .before .before .before .before .before .before .before .before .before .before .before .before .pre .0) (c .before .before .before .before .before .before .before .before .before .before .before .before .pre .1) (c .before .before .before .before .before .before .before .before .before .loop .inv) (c .before .before .before .before .before .before .before .before .loop-test .taken) (c .before .before .before .before .before .before .before .section-start .ensures) (c .before .before .before .before .before .before .section-start2 .ensures) (c .before .before .before .before .before .section-start3 .ensures) (c .before .before .before .before .section-start4 .ensures) (c .before .same-bytes .ensures ∙ rw (c .before .before .before .part .ensures, c .before .before .part2 .ensures)) (not-false _ (c .if1 .left))
+loop-again c =
+    let same-bytes = c .before in
+    let part2 = same-bytes .before in
+    let part = part2 .before in
+    let section-start4 = part .before in
+    let section-start3 = section-start4 .before in
+    let section-start2 = section-start3 .before in
+    let section-start = section-start2 .before in
+    let loop-test = section-start .before in
+    let inner = loop-test .before in
+    let start = inner .before .before .before in
+    section-same (start .pre .0) (start .pre .1) (inner .loop .inv) (loop-test .loop-test .taken) (section-start .section-start .ensures) (section-start2 .section-start2 .ensures) (section-start3 .section-start3 .ensures) (section-start4 .section-start4 .ensures)
+    (part .part .ensures) (part2 .part2 .ensures) (same-bytes .same-bytes .ensures) (not-false _ (c .if1 .left))
 
 returns-2 : tie.Need-returns-2 Inv-loop μ-loop
 returns-2 c = left-end (c .before .loop .inv) (c .loop-test .left)
