@@ -6,14 +6,17 @@ use lib.ListN.{length, replicate}
 use Rattle.state.specs.declared.Verdict.{Verdict}
 use Rattle.state.specs.declared.Verdict.the-variants.{Compatible, Differs, SnapshotRefused, TargetRefused}
 use Rattle.order.specs.Lex.{agreeing}
+use Rattle.format.specs.Format.{scan}
 use Rattle.format.specs.Admits.{All}
+use Rattle.format.specs.Places.{sectionStarts, manifestStarts}
 use Rattle.format.specs.Reading.{indexWords}
 use Rattle.format.proofs.Lists.{alike-each}
 use Rattle.questions.specs.Portability.{targetBoundClasses}
+use Rattle.questions.specs.Answers.{decodedIndex}
 use Rattle.questions.proofs.Cases.{zeros, hex}
 use Rattle.questions.proofs.Rows.{opened}
 use Rattle.verdict.specs.Verdict.{field, along, headVerdict, paramVerdict, paramsVerdict, portsVerdict, blockVerdict, over, verdict}
-use Rattle.verdict.specs.Answers.{compareManifests}
+use Rattle.verdict.specs.Answers.{compareManifests, targetIndex}
 use Rattle.verdict.proofs.Cases.{Side, Pair, sideAt, pairRows}
 
 -- "P: portable, one authored block with empty key and class, stateful, revision 1, length 1, no lists, scheduled, slot at 0"
@@ -60,6 +63,21 @@ answerTo r =
 rows-hold : All (λ (r : Pair). answerTo r ≡ r .verdict) rows
 unfolding opened field along headVerdict paramVerdict paramsVerdict portsVerdict blockVerdict over verdict compareManifests
 rows-hold = alike-each answerTo (λ (r : Pair). r .verdict) rows refl
+
+-- ---- the target's index at the end, where all its words were 7: untouched, cleared, or the starts and zeros
+abbrev leftOf : Side → Side → List ℕ
+leftOf s t = targetIndex targetBoundClasses (s .bytes) (s .base) (s .revision) (indexFor s) (t .bytes) (t .base) (t .revision) (replicate (length (indexFor t)) 7)
+
+abbrev starts : List ℕ
+starts = 0 ∷ 1 ∷ 5 ∷ 9 ∷ 13 ∷ 17 ∷ 21 ∷ 25 ∷ 29 ∷ 33 ∷ 37 ∷ 41 ∷ []
+
+target-left :
+    (leftOf (sideAt 0 2 (zeros 44)) (sideAt 0 2 (zeros 45)) ≡ replicate 38 7)
+    × (leftOf (sideAt 0 2 P) (sideAt 0 2 (zeros 44)) ≡ replicate 38 0)
+    × (leftOf (sideAt 0 2 P) (short (sideAt 0 2 (zeros 45))) ≡ replicate 37 7)
+    × (leftOf (sideAt 0 2 P) (sideAt 0 2 (zeros 45)) ≡ starts ++ replicate 26 0)
+unfolding opened targetIndex decodedIndex manifestStarts sectionStarts scan
+target-left = (refl, refl, refl, refl)
 
 -- "First differing byte: 5"
 first-differing : agreeing (zeros 45) P ≡ 5
