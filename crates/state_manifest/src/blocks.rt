@@ -171,7 +171,7 @@ fn compare_ports(s: &[u8], t: &[u8], a: usize, b: usize, i: usize) -> Verdict
 }
 
 // Section 3, whose counts stand at a and b. Blocks and parameters are left together at the first difference.
-pub fn compare_blocks(s: &[u8], t: &[u8], a: usize, b: usize) -> Verdict
+pub(crate) fn compare_blocks(s: &[u8], t: &[u8], a: usize, b: usize) -> Verdict
     requires { ⌜ Both (counted blocks) (now s) (now t) a b ⌝ }
     ensures { λ r. ⌜ r ≡ listwise 3 blocks blockVerdict .compare (valueAt (counted blocks) (now (s .entry)) a) (valueAt (counted blocks) (now (t .entry)) b) ⌝ }
 {

@@ -27,7 +27,7 @@ ghost use Rattle.state_layout.specs.Tables.{manifestOf};
 ghost use Rattle.state_manifest.specs.Comparing.{Both, named, comparison, Stands};
 
 // Do both lists have entries left?
-pub fn both_left(left: usize, right: usize) -> bool
+pub(crate) fn both_left(left: usize, right: usize) -> bool
     ensures { λ r. ⌜ r ≡ (ltb 0 left && ltb 0 right) ⌝ }
 {
     if left == 0 {
@@ -37,7 +37,7 @@ pub fn both_left(left: usize, right: usize) -> bool
 }
 
 // What two parts come to: nothing, or this difference.
-pub fn compare_part(
+pub(crate) fn compare_part(
     s: &[u8],
     a: usize,
     e: usize,
@@ -55,7 +55,7 @@ pub fn compare_part(
 }
 
 // What two lists come to of which so many entries are left after one of them has ended.
-pub fn compare_counts(left: usize, right: usize, difference: Verdict) -> Verdict
+pub(crate) fn compare_counts(left: usize, right: usize, difference: Verdict) -> Verdict
     ensures { λ r. ⌜ r ≡ cond (eqb left right) Compatible difference ⌝ }
 {
     if left == right {
@@ -149,7 +149,7 @@ fn section_start(s: &[u8], starts: Starts, section: u8) -> usize
 }
 
 // Two accepted manifests. Sections are compared as bytes first, and walked only where they differ.
-pub fn compare_sections(s: &[u8], t: &[u8], snapshot: Starts, target: Starts) -> Verdict
+pub(crate) fn compare_sections(s: &[u8], t: &[u8], snapshot: Starts, target: Starts) -> Verdict
     requires { ⌜ Stands (now s) (snapshot .at) × Stands (now t) (target .at) ⌝ }
     ensures { λ r. ⌜ r ≡ verdict (manifestOf (now (s .entry))) (manifestOf (now (t .entry))) ⌝ }
 {

@@ -1,6 +1,6 @@
 // The word total and the units of a manifest, and the verdict on two.
-pub mod blocks;
-pub mod compare;
+mod blocks;
+mod compare;
 
 use compare::compare_sections;
 use manifest::decode_manifest;
