@@ -148,6 +148,10 @@ module _ (limit : ℕ) (f : Fmt) (t : honest f ≡ true) where
       o : (v ≡ w) × (length (encode f v) ≡ length (encode f w))
       o = (cc g, cc g)
 
+  -- so two that are written alike are the same
+  pub told : (v w : El f) → Holds limit f v → Holds limit f w → encode f v ≡ encode f w → v ≡ w
+  told v w hv hw e = unambiguous v w hv hw [] [] (ap (λ (l : List ℕ). l ++ []) e) .0
+
   -- two lists with the same bytes from at up to n are read alike there
   pub local : (s s′ : List ℕ) → AreBytes s → (at n : ℕ) (v : El f) → at ≤ length s → n ≤ length s′ → span s′ at n ≡ span s at n → read limit f s at ≡ got v n → read limit f s′ at ≡ got v n
   local s s′ b at n v h k e q =
@@ -169,4 +173,4 @@ module _ (limit : ℕ) (f : Fmt) (t : honest f ≡ true) where
       there e = p .part .is ∙ ap (encode f) e ∙ sym (q .part .is)
 
       back : span s a n ≡ span s′ b m → v ≡ w
-      back e = unambiguous v w (p .holds) (q .holds) [] [] (ap (λ (l : List ℕ). l ++ []) (sym (p .part .is) ∙ e ∙ q .part .is)) .0
+      back e = told v w (p .holds) (q .holds) (sym (p .part .is) ∙ e ∙ q .part .is)

@@ -19,8 +19,9 @@ use Rattle.format.proofs.Canonical.{canonical}
 use Rattle.format.proofs.Values.{self}
 use Rattle.questions.specs.Sets.{first}
 use Rattle.questions.specs.Declarations.{declarations}
-use Rattle.questions.specs.References.{references}
+use Rattle.questions.specs.References.{references, boundaries}
 use Rattle.questions.specs.Slots.{slots}
+use Rattle.questions.specs.Inputs.{inputDefinitionsHold}
 use Rattle.questions.specs.Order.{answers, firstFailing}
 use Rattle.questions.specs.Answers.{judged, judge, decodedOf, decodeManifest}
 use Rattle.questions.proofs.Chains.{groups-none}
@@ -72,10 +73,22 @@ module _ (bound : List (List ℕ)) (revision : ℕ) where
     judge-tells e = yielded (subst (Yields Judged) e
         (yields-bind (yields-passed s w) λ m n p. yields-judged (firstFailing bound revision m) m n λ i. record { passed = p; none = i }))
 
-  -- none says no among those over the slots
+  -- none says no among those over the declarations
+  pub declarations-say-yes : (m : El manifest) → firstFailing bound revision m ≡ 0 → first (declarations m) ≡ 0
+  unfolding firstFailing answers
+  declarations-say-yes m h = groups-none (declarations m) _ h .0
+
+  -- nor among those over the slots
   pub slots-say-yes : (m : El manifest) → firstFailing bound revision m ≡ 0 → first (slots m) ≡ 0
   unfolding firstFailing answers
   slots-say-yes m h = groups-none (slots m) _ (groups-none (references m) _ (groups-none (declarations m) _ h .1) .1) .0
+
+  -- nor among those over the input definitions
+  pub inputs-say-yes : (m : El manifest) → firstFailing bound revision m ≡ 0 → first (inputDefinitionsHold m) ≡ 0
+  unfolding firstFailing answers
+  inputs-say-yes m h =
+      groups-none (inputDefinitionsHold m) _
+      (groups-none (boundaries m) _ (groups-none (slots m) _ (groups-none (references m) _ (groups-none (declarations m) _ h .1) .1) .1) .1) .0
 
   -- where `decode_manifest` answers Accepted, there is a manifest
   pub accepted-got : (s : List ℕ) (base : ℕ) (index : List ℕ) → decodeManifest bound s base revision index .answer ≡ Accepted

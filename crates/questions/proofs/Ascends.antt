@@ -11,9 +11,9 @@ use Rattle.format.specs.Admits.{All}
 use Rattle.format.specs.Pairwise.{Ascending}
 use Rattle.format.proofs.Lists.{same-true, same-apart, same-differs}
 use Rattle.format.proofs.Pairwise.{before-trans, before-apart}
-use Rattle.questions.specs.Sets.{all, keep, allIn}
-use Rattle.questions.proofs.Sets.{in-front, in-rest}
-use Rattle.questions.proofs.Kept.{all-so, all-of-map, all-to-map, keep-all}
+use Rattle.questions.specs.Sets.{all, keep, allIn, sameSet}
+use Rattle.questions.proofs.Sets.{all-weaker, in-front, in-rest}
+use Rattle.questions.proofs.Kept.{all-so, all-each, all-of-map, all-to-map, keep-all}
 
 -- ---- each key comes before all that follow it
 abbrev pub Ahead : List ℕ → List (List ℕ) → Type 0
@@ -93,6 +93,19 @@ same-if (x ∷ xs) (y ∷ ys) p q i j =
     let e : x ≡ y = heads x y xs ys (p .0) (q .0) (a .0) (b .0) in
     let r : xs ≡ ys = same-if xs ys (p .1) (q .1) (all-in-rest y xs ys (subst (λ z. Ahead z xs) e (p .0)) (a .1)) (all-in-rest x ys xs (subst (λ z. Ahead z ys) (sym e) (q .0)) (b .1)) in
     rw (e, r)
+
+-- what is among those that are among others is among these
+all-in-others : (xs ys zs : List (List ℕ)) → allIn xs ys ≡ true → allIn ys zs ≡ true → allIn xs zs ≡ true
+unfolding allIn
+all-in-others xs ys zs p q = all-weaker _ _ (λ k i. in-all (λ l. isIn l zs ≡ true) k ys i (all-each _ ys q)) xs p
+
+-- and so of two lists that ascend and hold what a third does
+pub same-sets : (xs ys zs : List (List ℕ)) → Ascends xs → Ascends ys → sameSet zs xs ≡ true → sameSet zs ys ≡ true → xs ≡ ys
+unfolding sameSet
+same-sets xs ys zs p q h i =
+    let a = both (allIn zs xs) (allIn xs zs) h in
+    let b = both (allIn zs ys) (allIn ys zs) i in
+    same-if xs ys p q (all-in-others xs zs ys (a .1) (b .0)) (all-in-others ys zs xs (b .1) (a .0))
 
 -- ---- some of a list
 module _ {A : Type 0} (name : A → List ℕ) (t : A → Bool) where

@@ -1,8 +1,8 @@
 -- Refusals of the Rust that cannot arise: document 01, "`unknown external input`, `connector occurs in multiple block port lists` .. can't arise
 -- after these questions; that is proved"; and its test that a manifest is written in the one way that there is.
 use Prim.Native.Nat.{ℕ}
-use mathlib.Core.Path.{_≡_, refl}
-use mathlib.Core.Bool.{Bool, true}
+use mathlib.Core.Path.{_≡_}
+use mathlib.Core.Bool.{true}
 use mathlib.Core.List.{List, [], _∷_}
 use lib.Dec.{eqb}
 use Rattle.text.proofs.Blocks.{both}
@@ -22,14 +22,10 @@ use Rattle.questions.specs.References.{isKnown, isDirected, externalsHol
 use Rattle.questions.specs.Answers.{judge}
 use Rattle.questions.proofs.Chains.{first-none, unless-none, each-none}
 use Rattle.questions.proofs.Accepted.{passed-canonical, judge-tells}
+use Rattle.questions.proofs.Sets.{all-weaker}
 use Rattle.questions.proofs.Ports.{AllAdmitted, Passes, blocks-differ}
 
 -- ---- 'unknown external input'
-all-weaker : {A : Type 0} (t u : A → Bool) → ((x : A) → t x ≡ true → u x ≡ true) → (xs : List A) → all t xs ≡ true → all u xs ≡ true
-unfolding all
-all-weaker t u h [] e = refl
-all-weaker t u h (x ∷ xs) e = let b = both (t x) (all t xs) e in rw (h x (b .0), all-weaker t u h xs (b .1))
-
 -- after question 25 each external input is a connector's key
 pub external-inputs-known : (m : El manifest) → first (boundaries m) ≡ 0
     → all (λ x. isKnown (connectorNames (connectorsOf m)) (externalInput x)) (externalInputsOf m) ≡ true
@@ -57,14 +53,16 @@ blocks-named-once bs h =
     let names : List (List ℕ) = blockNames bs in
     different-iff names .1 (ascending-different names (ascending-iff (late wire) tt names .0 (h .2)))
 
--- after questions 9 and 14 no port stands twice in the blocks' lists
-pub ports-once : (m : El manifest) → Holds maxSnapshotBytes manifest m → first (declarations m) ≡ 0 → allDifferent (gather blockPorts (blocksOf m)) ≡ true
-unfolding Holds manifest declarations blocksOf
-ports-once m h e =
-    let bs : List (Entry blocks) = blocksOf m in
-    let b = h .1 .1 .0 in
-    let a = each-none (blockAnswer (enumsOf m)) bs (first-none _ _ (first-none _ _ e .1) .0) in
-    blocks-differ bs (all-pass (enumsOf m) bs (b .1) a) (blocks-named-once bs b)
+module _ (m : El manifest) (h : Holds maxSnapshotBytes manifest m) (e : first (declarations m) ≡ 0) where
+  -- the ports of each block are as question 14 asks
+  pub blocks-pass : All Passes (blocksOf m)
+  unfolding Holds manifest declarations blocksOf
+  blocks-pass = all-pass (enumsOf m) (blocksOf m) (h .1 .1 .0 .1) (each-none (blockAnswer (enumsOf m)) (blocksOf m) (first-none _ _ (first-none _ _ e .1) .0))
+
+  -- after questions 9 and 14 no port stands twice in the blocks' lists
+  pub ports-once : allDifferent (gather blockPorts (blocksOf m)) ≡ true
+  unfolding Holds manifest blocksOf
+  ports-once = blocks-differ (blocksOf m) blocks-pass (blocks-named-once (blocksOf m) (h .1 .1 .0))
 
 -- ---- 'manifest has a non-canonical encoding'
 module _ (bound : List (List ℕ)) (revision : ℕ) (s : List ℕ) (w : ℕ) (bytes : AreBytes s) where

@@ -2,8 +2,9 @@
 use mathlib.Core.Path.{_≡_, refl, subst}
 use mathlib.Core.Bool.{Bool, true, false, cond}
 use mathlib.Core.List.{List, [], _∷_, map, List·Permᴰ, List·Permᴰ·nil, List·Permᴰ·cons, List·Permᴰ·swap, List·Permᴰ·trans}
+use Rattle.text.proofs.Blocks.{both}
 use Rattle.format.specs.Admits.{All}
-use Rattle.questions.specs.Sets.{keep}
+use Rattle.questions.specs.Sets.{all, keep}
 
 module _ {A : Type 0} where
   -- what follows from two things of each
@@ -14,6 +15,12 @@ module _ {A : Type 0} where
   -- what follows from one thing of each
   pub all-so : {P Q : A → Type 0} → ((x : A) → P x → Q x) → (xs : List A) → All P xs → All Q xs
   all-so f xs p = all-two (λ x a b. f x a) xs p p
+
+  -- a test that all pass, each does
+  pub all-each : (t : A → Bool) (xs : List A) → all t xs ≡ true → All (λ x. t x ≡ true) xs
+  unfolding all
+  all-each t [] h = tt
+  all-each t (x ∷ xs) h = let b = both (t x) (all t xs) h in (b .0, all-each t xs (b .1))
 
   -- of each of a mapped list, and back
   pub all-of-map : {B : Type 0} (f : B → A) (P : A → Type 0) (xs : List B) → All P (map f xs) → All (λ x. P (f x)) xs

@@ -16,7 +16,7 @@ use Rattle.format.specs.Keys.{blockKey, connectorKey, owner, direction, portInd
 use Rattle.format.specs.Manifest.{connectorKeys, blocks}
 use Rattle.format.specs.Fields.{Entry, blockKeyOf, inputs, outputs}
 use Rattle.format.proofs.Lists.{same-true, in-append}
-use Rattle.format.proofs.Complete.{unambiguous}
+use Rattle.format.proofs.Complete.{told}
 use Rattle.questions.specs.Sets.{gather}
 use Rattle.questions.specs.Declarations.{blockNames, portHolds, portsHold, portNames, blockPorts}
 use Rattle.questions.proofs.Sets.{in-front, in-rest}
@@ -31,10 +31,10 @@ Admitted p = Holds maxSnapshotBytes connectorKey p
 
 -- what a key is written as tells it
 key-told : (p q : El connectorKey) → Admitted p → Admitted q → encode connectorKey p ≡ encode connectorKey q → p ≡ q
-key-told p q hp hq e = unambiguous maxSnapshotBytes connectorKey key-honest p q hp hq [] [] (ap (λ (l : List ℕ). l ++ []) e) .0
+key-told = told maxSnapshotBytes connectorKey key-honest
 
 -- a port for which 14 says yes has its block's key as owner, the direction of its list, and its place in it
-port-so : (k : El blockKey) (way i : ℕ) (p : El connectorKey) → portHolds k way i p ≡ true
+pub port-so : (k : El blockKey) (way i : ℕ) (p : El connectorKey) → portHolds k way i p ≡ true
     → (encode blockKey (owner p) ≡ encode blockKey k) × (direction p ≡ way) × (portIndex p ≡ i)
 unfolding portHolds
 port-so k way i p e =

@@ -3,6 +3,7 @@ use Prim.Native.Nat.{ℕ}
 use mathlib.Core.Path.{_≡_, refl, sym}
 use mathlib.Core.Bool.{Bool, true, false, _&&_, _||_, and-false}
 use mathlib.Core.List.{List, [], _∷_, map}
+use Rattle.text.proofs.Blocks.{both}
 use Rattle.format.specs.Lists.{same, isIn}
 use Rattle.format.proofs.Lists.{same-refl}
 use Rattle.questions.specs.Sets.{all}
@@ -28,6 +29,12 @@ module _ {A : Type 0} where
   unfolding all
   all-map t f [] = refl
   all-map t f (x ∷ l) = rw (all-map t f l)
+
+  -- all that pass a test pass a weaker one
+  pub all-weaker : (t u : A → Bool) → ((x : A) → t x ≡ true → u x ≡ true) → (xs : List A) → all t xs ≡ true → all u xs ≡ true
+  unfolding all
+  all-weaker t u h [] e = refl
+  all-weaker t u h (x ∷ xs) e = let b = both (t x) (all t xs) e in rw (h x (b .0), all-weaker t u h xs (b .1))
 
 -- ---- membership
 -- a list has its first, and what is in the rest of it

@@ -40,7 +40,7 @@ pub no-difference : {A : Type 0} {k p e i : ℕ} → Compatible ≡ Differs k p 
 no-difference h = let z : _≡_ {A = ℕ} 0 1 = cc in absurd (omega arith)
 
 -- neither is a difference where the first difference of the two is none
-or-both : (a b : Verdict) → a orElse b ≡ Compatible → (a ≡ Compatible) × (b ≡ Compatible)
+pub or-both : (a b : Verdict) → a orElse b ≡ Compatible → (a ≡ Compatible) × (b ≡ Compatible)
 or-both Compatible b h = (refl, h)
 or-both (Differs k p e i) b h = no-difference (sym h)
 or-both (SnapshotRefused q o) b h = (h, cc)
@@ -70,7 +70,7 @@ alike-finds e x = record {
 }
 
 -- a field, compared as it is written
-field-finds : (k : ℕ) (f : Fmt) (p e i : ℕ) → Finds k f (field f (Differs k p e i))
+pub field-finds : (k : ℕ) (f : Fmt) (p e i : ℕ) → Finds k f (field f (Differs k p e i))
 unfolding field
 field-finds k f p e i = record {
   alike = λ v w h. same-true _ _ (found (same (encode f v) (encode f w)) h);

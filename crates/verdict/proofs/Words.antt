@@ -43,11 +43,11 @@ total-by n (e ∷ es) h = omega (arith, h .0, total-by n es (h .1))
 
 -- ---- the slots are the stateful blocks in their order, and as long
 -- keys that passed question 9 ascend
-keys-ascend : (least : ℕ) (rest : Fmt) (es : List (El (blockKey then rest))) → Holds maxSnapshotBytes (list 4 least (late wire) blockKey rest) es
-    → Ascends (map (λ e. encode blockKey (e .0)) es)
+pub keys-ascend : (least : ℕ) (key rest : Fmt) (es : List (El (key then rest))) → Holds maxSnapshotBytes (list 4 least (late wire) key rest) es
+    → Ascends (map (λ e. encode key (e .0)) es)
 unfolding Holds
-keys-ascend least rest es h =
-    let ks : List (List ℕ) = map (λ e. encode blockKey (e .0)) es in
+keys-ascend least key rest es h =
+    let ks : List (List ℕ) = map (λ e. encode key (e .0)) es in
     ascends ks (ascending-iff (late wire) tt ks .0 (h .2))
 
 -- slots with the names of these blocks, each alone of its name, that pass question 22
@@ -74,11 +74,11 @@ module _ (m : El manifest) (h : Holds maxSnapshotBytes manifest m) (s : first (s
   -- 9, of blocks and of slots
   blocks-ascend : Ascends (map blockName bs)
   unfolding Holds manifest blocksOf blockKeyOf
-  blocks-ascend = keys-ascend 34 blockRest bs (h .1 .1 .0)
+  blocks-ascend = keys-ascend 34 blockKey blockRest bs (h .1 .1 .0)
 
   slots-ascend : Ascends (map slotName es)
   unfolding Holds manifest slotsOf slotName slotKey
-  slots-ascend = keys-ascend 21 slotRest es (h .1 .1 .1 .1 .1 .1 .1 .1 .0)
+  slots-ascend = keys-ascend 21 blockKey slotRest es (h .1 .1 .1 .1 .1 .1 .1 .1 .0)
 
   -- 21: the slots have the names of the stateful blocks, in their order
   same-names : map slotName es ≡ map blockName stateful
