@@ -1,7 +1,7 @@
-/* The reader of execution manifests: link libhandover_c.a (rt staticlib handover_c).
-   The function is proved to answer as said here, for bytes of any content and length; it keeps no pointer, allocates
-   nothing, never changes the bytes, and touches no memory outside what it is lent. A pointer to no bytes, or to an
-   index of no words, must still not be null; bytes, index and answer must not overlap. */
+/* Execution manifests, read, counted and compared: link libhandover_c.a (rt staticlib handover_c).
+   The functions are proved to answer as said here, for bytes of any content and length; they keep no pointer, allocate
+   nothing, never change the bytes, and touch no memory outside what they are lent. A pointer to no bytes, or to an
+   index of no words, must still not be null; an index, and answer, must not overlap anything else that is lent. */
 #ifndef HANDOVER_H
 #define HANDOVER_H
 
@@ -44,6 +44,46 @@ extern "C" {
    16  classes are not those that are named      32  an empty target string */
 uint32_t handover_decode_manifest(const uint8_t *bytes, size_t n, uint64_t base, uint32_t revision, uint32_t *index,
                                   size_t words, uint64_t answer[16]);
+
+/* Counts the units of one manifest: four for each of its state words, and one for each connector. Bytes, base, revision
+   and index are those of handover_decode_manifest.
+
+   Result 0: the manifest is accepted. answer[0] is the number of its state words, which is its largest slot end,
+   answer[1] is its units, the others are 0; the index is as after acceptance above.
+
+   Result 1 to 32: refused, for the question of that number. answer and index are as after that refusal above.
+
+   Result 39: handover_decode_manifest accepts it, but its units are above 2^64 - 1. answer and index are all 0. */
+uint32_t handover_units(const uint8_t *bytes, size_t n, uint64_t base, uint32_t revision, uint32_t *index, size_t words,
+                        uint64_t answer[16]);
+
+/* Compares a snapshot's manifest with the target's, each with its own base, revision and index. The snapshot's is
+   judged first, as by handover_decode_manifest, then the target's.
+
+   Result 0: both are accepted, and either index is as after acceptance above. answer[0] is 0 where the manifests are
+   compatible: all twelve sections hold the same entries in the same order, equal in every field as read; Reals are
+   compared by their eight bytes. Else answer[0] is the first section that differs: 1 portability, 2 enum classes,
+   3 blocks, 4 connectors, 5 connections, 6 schedule, 7 connector order, 8 drivers, 9 slots, 10 external inputs,
+   11 boundary outputs, 12 input definitions. answer[1] is the part in which it first differs:
+    0  the whole entry (sections 2, 4 and 12), or the whole section (1 and 5 to 11)
+    1  a block's key                  6  a parameter's name               10  the number of inputs
+    2  its class                      7  a parameter's value              11  an output
+    3  its kind                       8  the number of parameters         12  the number of outputs
+    4  its revision                   9  an input                         13  the number of entries (sections 2, 3,
+    5  its state length                                                       4 and 12)
+   answer[2] is the place of the entry, answer[3] the place of the parameter or port within it. Places count from 0; the
+   place of a number of entries, parameters or ports is the smaller number; where a part has no place it is 0. The
+   others are 0.
+
+   Result 1 to 32: one of the two is refused, for the question of that number. answer[0] is the offset, answer[1] is 0
+   for the snapshot's manifest and 1 for the target's, the others are 0; its index is as after that refusal above. After
+   a refusal of the snapshot's the target's index is as it was lent; after one of the target's the snapshot's index is
+   as after acceptance. */
+uint32_t handover_compare_manifests(const uint8_t *snapshot, size_t snapshot_n, uint64_t snapshot_base,
+                                    uint32_t snapshot_revision, uint32_t *snapshot_index, size_t snapshot_words,
+                                    const uint8_t *target, size_t target_n, uint64_t target_base,
+                                    uint32_t target_revision, uint32_t *target_index, size_t target_words,
+                                    uint64_t answer[16]);
 
 #ifdef __cplusplus
 }

@@ -80,7 +80,7 @@ def connection_added(dice, p, q):
 @differs(5, 0)
 def connection_moved(dice, p, q):
     """As many as before, but one of them elsewhere."""
-    gone = pick(dice, p.connections)
+    gone = pick(dice, [row for row in p.connections if row in q.connections])
     connection_added(dice, p, q)
     q.connections.remove(gone)
 

@@ -83,5 +83,5 @@ def kind_of(v):
 def other_ordinal(dice, p, v):
     """A value of an enum class, with another ordinal."""
     path, now = v[2][1], int.from_bytes(v[3][1], "little")
-    members = len(dict(p.classes)[path])
+    members = len(dict(p.classes).get(path, ()))  # none where an earlier edit renamed the class
     return value(ENUM, path, pick(dice, [i + 1 for i in range(members) if i + 1 != now]))

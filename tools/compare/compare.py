@@ -1,11 +1,11 @@
-"""Feeds manifests to the published Rust and to the C interface, and compares what they answer.
+"""Feeds manifests and pairs to the published Rust and to the C interface, and compares what they answer.
 
     python3 tools/compare/compare.py ORACLE DRIVER [CASES [SEED]]        (tools/compare/run builds DRIVER)
 
-The manifests are made by the dice: accepted ones (`plant` of tools/manifests.py), then one edit or two of its
-structure (tools/*_edits.py), fields written over, entries out of order, bytes changed, left out, put in, cut off or
-added. Base, revision and the length of the index vary. Where the index is too short, question 2 is expected, which the
-Rust does not have; all other answers are the Rust's. The driver looks at the index itself and says where it is wrong.
+CASES manifests, each for handover_decode_manifest and for handover_units, and half as many pairs for
+handover_compare_manifests; tools/compare/cases.py makes them. The driver tells the result, the whole answer, and what
+the indexes hold after the call. What is expected of them is the Rust's, but for document 01's additions: question 2,
+where an index is too short, the units, and question 39.
 """
 import collections
 import multiprocessing
@@ -15,111 +15,16 @@ import struct
 import subprocess
 import sys
 
-sys.path.insert(0, os.path.dirname(os.path.dirname(os.path.abspath(__file__))))
-from manifest_cases import other_edits, put, refused_edits
-from manifests import *
-from question_cases import EDITS, edited
+from cases import HIGHEST, cases, needed, pairs
 
-BATCH = 2500
-FROM_ONE = 12  # cases that are made of one manifest
+BATCH = 5000  # manifests at a time
 SHOWN = 5  # differences that are shown in full
+SIDES = ("snapshot", "target")
 
-Case = collections.namedtuple("Case", "base revision words bytes")
+# What the Rust says of one manifest: question 0 and what follows, or the question and offset.
+Said = collections.namedtuple("Said", "question offset words connectors starts")
 
-# -- Manifests --------------------------------------------------------------------------------------------------
-
-
-def some_plant(dice):
-    """Mostly small; one in a hundred has many blocks, one long texts."""
-    rare = dice.randrange(100)
-    blocks = 20 if rare == 0 else dice.choice((0, 1, 1, 1, 2, 2, 2, 3, 3, 4, 6))
-    longest = 300 if rare == 1 else dice.choice((0, 1, 2, 5, 20))
-    return plant(dice, blocks, dice.choice((0, 1, 1, 2, 3)), longest, dice.random() < 0.2)
-
-
-def some_edit(dice):
-    """All questions alike, however many edits there are for each."""
-    question = dice.randrange(11, 33)
-    return dice.choice([edit for edit in EDITS if edit.question == question])
-
-
-def structure(dice, m):
-    """One edit that leaves all fields readable, or two; the manifest itself where those drawn change nothing."""
-    for _ in range(8):
-        out = edited(dice, [some_edit(dice) for _ in range(dice.choice((1, 1, 1, 2)))], m)
-        if out:
-            return encode(out)
-    return encode(m)
-
-
-def fields(dice, m):
-    b = encode(m)
-    for _ in range(dice.choice((1, 1, 1, 2, 3))):
-        _, at, field = dice.choice(flat(m))
-        b = dice.choice((refused_edits(b, at, field) + other_edits(b, at, field)) or [b])
-    return b
-
-
-def entries(dice, m):
-    """An entry at another place, or twice, and sometimes a list of members with one twice."""
-    s = dice.choice(SECTIONS)
-    out = {**m, s: list(m[s])}
-    if out[s]:
-        entry = dice.choice(out[s])
-        if dice.random() < 0.5:
-            out[s].remove(entry)
-        out[s].insert(dice.randrange(len(out[s]) + 1), entry)
-    if dice.random() < 0.3:
-        member = some_text(dice, 2)
-        out[2] = out[2] + [enum_class(b"\x7f\x7f", dice.choice(([member, b"-", member], [member], [])))]
-    return encode(out)
-
-
-def some_bytes(dice, m):
-    b = bytearray(encode(m))
-    for _ in range(dice.choice((1, 1, 2, 5))):
-        at = dice.randrange(len(b) + 1)
-        new = dice.choice((b"", b"\0", b"\1", b"\2", b"\x80", b"\xff", bytes([dice.getrandbits(8)])))
-        b[at : at + dice.randrange(3)] = new
-    return bytes(b)
-
-
-def cut(dice, m):
-    b = encode(m)
-    return b[: dice.randrange(len(b) + 1)]
-
-
-def trailing(dice, m):
-    return encode(m) + dice.choice((b"\0", b"\xff", bytes(dice.randrange(1, 9))))
-
-
-def noise(dice, m):
-    return bytes(dice.choice((0, 0, 0, 1, 2, dice.getrandbits(8))) for _ in range(dice.randrange(120)))
-
-
-KINDS = [structure] * 10 + [fields] * 3 + [entries] * 2 + [some_bytes, some_bytes, cut, trailing, noise]
-KINDS += [lambda dice, m: encode(m)] * 2
-
-# -- Cases ------------------------------------------------------------------------------------------------------
-
-
-def dressed(dice, b):
-    least = needed(b)
-    revision = dice.choice((2,) * 8 + (0, 1, 3, dice.getrandbits(32)))
-    longer, shorter = (least + 1, least + dice.randrange(300)), (least - 1, dice.randrange(least))
-    words = dice.choice((least,) * 8 + longer * 2 + shorter)
-    return Case(some_base(dice, len(b)), revision, words, b)
-
-
-def cases(dice, n):
-    made = []
-    while len(made) < n:
-        m = some_plant(dice)
-        made += [dressed(dice, dice.choice(KINDS)(dice, m)) for _ in range(FROM_ONE)]
-    return made[:n]
-
-
-# -- Answers ----------------------------------------------------------------------------------------------------
+# -- Records and lines ------------------------------------------------------------------------------------------
 
 
 def lines(program, records):
@@ -129,32 +34,119 @@ def lines(program, records):
     return out
 
 
-def expected(case, said):
-    """What the C interface must print, from the Rust's line."""
-    words = said.split(" | ")[0].split()
-    if case.words < needed(case.bytes):
-        return "refused 2 0"
-    return " ".join(["accepted"] + words[3:15] if words[0] == "accepted" else words[:3])
+def rust_side(x):
+    return struct.pack("<QII", x.base, x.revision, len(x.bytes)) + x.bytes
+
+
+def our_side(x):
+    return struct.pack("<QIII", x.base, x.revision, x.words, len(x.bytes)) + x.bytes
+
+
+def both_sides(pair, side):
+    return side(pair.snapshot) + side(pair.target)
+
+
+# -- What is expected -------------------------------------------------------------------------------------------
+
+
+def said(side, line):
+    """From the Rust's line on a manifest, or from document 01 where the index is too short."""
+    words = line.split(" | ")[0].split()
+    if side.words < needed(side.bytes):
+        return Said(2, 0, 0, 0, [])
+    if words[0] == "accepted":
+        return Said(0, 0, int(words[1]), int(words[2]), words[3:15])
+    return Said(int(words[1]), int(words[2]), 0, 0, [])
+
+
+def left(result, words, *indexes):
+    """What the driver prints of a call: the result, the first words of the answer, what the indexes hold."""
+    return " ".join(str(w) for w in [result, *words, *[0] * (16 - len(words)), *indexes])
+
+
+def index(one):
+    """After a manifest was judged."""
+    if one.question:
+        return "lent" if one.question == 2 else "zeros"
+    return " ".join(["starts", *one.starts])
+
+
+def decoded(one):
+    return left(one.question, [one.offset] if one.question else one.starts, index(one))
+
+
+def counted(one):
+    units = 4 * one.words + one.connectors
+    if one.question:
+        return decoded(one)
+    return left(0, [one.words, units], index(one)) if units <= HIGHEST else left(39, [], "zeros")
+
+
+def compared(snapshot, target, line):
+    """From what was said of both, and the Rust's line on the pair, which must say the same of a refusal."""
+    words = line.split(" | ")[0].split()
+    for i, one in enumerate((snapshot, target)):
+        if one.question:
+            assert one.question == 2 or words == [SIDES[i], "refused", str(one.question), str(one.offset)], line
+            return left(one.question, [one.offset, i], index(snapshot), index(target) if i else "lent")
+    assert words[0] in ("compatible", "differs"), line
+    return left(0, words[1:], index(snapshot), index(target))
+
+
+# -- Comparison -------------------------------------------------------------------------------------------------
+
+
+def asked(oracle, sides):
+    told = lines(oracle, [b"m" + rust_side(x) for x in sides])
+    return [said(*x) for x in zip(sides, told)]
+
+
+def of_manifests(oracle, driver, made):
+    """For each call: its name, the record, what is expected, what was answered."""
+    ours = [line.split("\t") for line in lines(driver, [b"m" + our_side(x) for x in made])]
+    for x, one, (first, second) in zip(made, asked(oracle, made), ours):
+        yield "decode_manifest", our_side(x), decoded(one), first
+        yield "units", our_side(x), counted(one), second
+
+
+def of_pairs(oracle, driver, made):
+    ours = lines(driver, [b"v" + both_sides(x, our_side) for x in made])
+    told = lines(oracle, [b"v" + both_sides(x, rust_side) for x in made])
+    sides = [asked(oracle, [x[i] for x in made]) for i in (0, 1)]
+    for x, snapshot, target, line, answer in zip(made, *sides, told, ours):
+        yield "compare_manifests", both_sides(x, our_side), compared(snapshot, target, line), answer
+
+
+def label(name, answer):
+    """What an answer is counted as: the call, and the question (0: accepted) or section and part (0, 0: compatible)."""
+    result, first, second = (int(w) for w in answer.split()[:3])
+    if name != "compare_manifests":
+        return name, (result,)
+    return (name + ", %s refused" % SIDES[second], (result,)) if result else (name, (first, second))
 
 
 def batch(job):
-    """The answers that agree, counted by question (0 where accepted), and the differences."""
+    """The answers that agree, counted, and the differences."""
     oracle, driver, seed, n = job
-    made = cases(random.Random(seed), n)
-    rust = lines(oracle, [b"m" + struct.pack("<QII", c.base, c.revision, len(c.bytes)) + c.bytes for c in made])
-    ours = lines(driver, [struct.pack("<QIII", c.base, c.revision, c.words, len(c.bytes)) + c.bytes for c in made])
+    dice = random.Random(seed)
     agreed, differ = collections.Counter(), []
-    for case, said, answer in zip(made, rust, ours):
-        if answer != expected(case, said):
-            differ.append((case, said, answer))
+    every = [of_manifests(oracle, driver, cases(dice, n)), of_pairs(oracle, driver, pairs(dice, n // 2))]
+    for name, record, expected, answer in (x for some in every for x in some):
+        if answer != expected:
+            differ.append((name, record, expected, answer))
         else:
-            agreed[int(answer.split()[1]) if answer.startswith("refused") else 0] += 1
+            agreed[label(name, answer)] += 1
     return agreed, differ
 
 
-def show(case, said, answer):
-    print("base %d, revision %d, %d index words, bytes %s" % (case.base, case.revision, case.words, case.bytes.hex()))
-    print("    Rust:        %s\n    C interface: %s" % (said, answer))
+def show(agreed, differ):
+    for title in sorted({title for title, _ in agreed}):
+        row = sorted((key, n) for (other, key), n in agreed.items() if other == title)
+        text = ", ".join("%s: %d" % (".".join(map(str, key)), n) for key, n in row)
+        print("%s, %d agreed: %s" % (title, sum(n for _, n in row), text))
+    print("%d differences" % len(differ))
+    for name, record, expected, answer in differ[:SHOWN]:
+        print("%s, record %s\n    expected: %s\n    answered: %s" % (name, record.hex(), expected, answer))
 
 
 def main():
@@ -169,10 +161,7 @@ def main():
         for some, others in pool.imap(batch, jobs):
             agreed += some
             differ += others
-    print("agreed: accepted %d," % agreed[0], ", ".join("%d: %d" % (q, agreed[q]) for q in range(2, 33)))
-    print("%d cases, %d differences" % (count, len(differ)))
-    for row in differ[:SHOWN]:
-        show(*row)
+    show(agreed, differ)
     sys.exit(1 if differ else 0)
 
 
