@@ -1,8 +1,11 @@
-//! Judges large manifests, questions 1 to 32, and prints how fast: decoding [ORACLE FOLDER]
-//! With the oracle built from the published Rust, its decode_manifest is timed on the same bytes, by way of files in
-//! FOLDER. A row is the best of some rounds on one thread; bytes and index are in memory.
+//! Judges large manifests, questions 1 to 32, compares pairs of them, and prints how fast: decoding [ORACLE FOLDER]
+//! With the oracle built from the published Rust, its decode_manifest and compare_manifests are timed on the same bytes,
+//! by way of files in FOLDER. A row is the best of some rounds on one thread; bytes and indexes are in memory.
 use std::process::Command;
 use std::time::Instant;
+
+mod plants;
+use plants::{class, plant};
 
 extern "C" {
     fn handover_decode_manifest(
@@ -12,6 +15,21 @@ extern "C" {
         revision: u32,
         index: *mut u32,
         m: usize,
+        answer: *mut u64,
+    ) -> u32;
+    fn handover_compare_manifests(
+        snapshot: *const u8,
+        n: usize,
+        base: u64,
+        revision: u32,
+        index: *mut u32,
+        m: usize,
+        target: *const u8,
+        n2: usize,
+        base2: u64,
+        revision2: u32,
+        index2: *mut u32,
+        m2: usize,
         answer: *mut u64,
     ) -> u32;
 }
@@ -24,224 +42,26 @@ fn decode(bytes: &[u8], index: &mut [u32]) -> (u32, u64) {
     (question, answer[0])
 }
 
+/// Section and part of a verdict, 0 and 0 for a compatible pair; both are accepted.
+fn compare(s: &[u8], i: &mut [u32], t: &[u8], j: &mut [u32]) -> (u64, u64) {
+    let mut answer = [7; 16];
+    let (a, n, b, m) = (s.as_ptr(), s.len(), t.as_ptr(), t.len());
+    let (i, u, j, v) = (i.as_mut_ptr(), i.len(), j.as_mut_ptr(), j.len());
+    assert_eq!(unsafe { handover_compare_manifests(a, n, 0, 2, i, u, b, m, 0, 2, j, v, answer.as_mut_ptr()) }, 0);
+    (answer[0], answer[1])
+}
+
 fn index_words(n: usize) -> usize {
     n / 2 + 16
 }
 
-/// Numbers from a fixed seed.
-struct Dice(u64);
-
-impl Dice {
-    fn below(&mut self, n: usize) -> usize {
-        self.0 = self.0.wrapping_mul(6364136223846793005).wrapping_add(1442695040888963407);
-        (self.0 >> 33) as usize % n
-    }
-}
-
-/// The fields of the wire.
-#[derive(Default)]
-struct Wire(Vec<u8>);
-
-impl Wire {
-    fn tag(&mut self, n: u8) {
-        self.0.push(n);
-    }
-    fn u32(&mut self, n: usize) {
-        self.0.extend((n as u32).to_le_bytes());
-    }
-    fn u64(&mut self, n: usize) {
-        self.0.extend(n.to_le_bytes());
-    }
-    fn text(&mut self, t: &str) {
-        self.u32(t.len());
-        self.0.extend(t.as_bytes());
-    }
-    fn block(&mut self, name: &str) {
-        self.tag(0);
-        self.text(name);
-    }
-    fn port(&mut self, name: &str, p: Port) {
-        self.block(name);
-        self.tag(p.out as u8);
-        self.u32(p.number);
-    }
-    fn list<T>(&mut self, entries: &[T], mut write: impl FnMut(&mut Wire, &T)) {
-        self.u32(entries.len());
-        entries.iter().for_each(|e| write(self, e));
-    }
-}
-
-/// A connector; they ascend as their keys do, since blocks are numbered by their keys and have few ports.
-#[derive(Clone, Copy, PartialEq, PartialOrd, Eq, Ord)]
-struct Port {
-    block: usize,
-    out: bool,
-    number: usize,
-}
-
-/// Block names of 10 to 40 bytes, all different, in the order of their keys: by length first.
-fn names(count: usize, dice: &mut Dice) -> Vec<String> {
-    let place = "plant.building.storey.zone.coils";
-    let mut names: Vec<String> = (0..count).map(|i| format!("{}/{i:07}", &place[..2 + dice.below(31)])).collect();
-    names.sort_by(|a, b| (a.len(), a).cmp(&(b.len(), b)));
-    names
-}
-
-const CLASSES: [&str; 4] = ["CDL.Reals.Add", "CDL.Reals.PID", "CDL.Logical.Switch", "CDL.Discrete.UnitDelay"];
-
-/// A plant of so many blocks: what follows from the names and a few throws of the dice, such that the Rust accepts it.
-struct Plant {
-    names: Vec<String>,
-    words: Vec<usize>,
-    params: Vec<bool>,
-    ports: Vec<Port>,
-    links: Vec<(Port, Port)>,
-    outside: Vec<Port>,
-}
-
-impl Plant {
-    fn new(count: usize) -> Plant {
-        let dice = &mut Dice(count as u64);
-        let names = names(count, dice);
-        let (mut words, mut params, mut ports, mut links, mut outside) = (vec![], vec![], vec![], vec![], vec![]);
-        for block in 0..count {
-            words.push([0, 0, 1, 2, 4][dice.below(5)]);
-            params.push(block == 0 || dice.below(5) < 3);
-            for number in 0..1 + dice.below(3) {
-                let input = Port { block, out: false, number };
-                ports.push(input);
-                match block > 0 && dice.below(8) > 0 {
-                    true => links.push((Port { block: dice.below(block), out: true, number: 0 }, input)),
-                    false => outside.push(input),
-                }
-            }
-            ports.push(Port { block, out: true, number: 0 });
-        }
-        links.sort();
-        Plant { names, words, params, ports, links, outside }
-    }
-
-    fn path(&self, p: Port) -> String {
-        format!("{}.{}{}", self.names[p.block], if p.out { "y" } else { "u" }, p.number)
-    }
-
-    fn block(&self, w: &mut Wire, i: usize) {
-        w.block(&self.names[i]);
-        w.text(CLASSES[i % 4]);
-        w.tag((self.words[i] > 0) as u8);
-        w.u32((self.words[i] > 0) as usize);
-        w.u64(self.words[i]);
-        w.u32(if self.params[i] { 2 } else { 0 });
-        if self.params[i] {
-            w.text("gain");
-            w.tag(0);
-            w.u64(i);
-            w.text("mode");
-            w.tag(4);
-            w.text("Types.Mode");
-            w.u32(1 + i % 2);
-        }
-        let (from, to) = (self.ports.partition_point(|p| p.block < i), self.ports.partition_point(|p| p.block <= i));
-        let port = |w: &mut Wire, p: &Port| w.port(&self.names[i], *p);
-        w.list(&self.ports[from..to - 1], port);
-        w.list(&self.ports[to - 1..to], port);
-    }
-
-    fn connector(&self, w: &mut Wire, p: Port) {
-        w.port(&self.names[p.block], p);
-        w.text(&self.path(p));
-        w.u32(p.number);
-        w.tag(0);
-        let unit = (p.block + p.number) % 3 == 0;
-        w.tag(unit as u8);
-        if unit {
-            w.text("K");
-        }
-        w.tag(0);
-    }
-
-    fn bytes(&self) -> Vec<u8> {
-        let w = &mut Wire::default();
-        let blocks: Vec<usize> = (0..self.names.len()).collect();
-        let port = |w: &mut Wire, p: Port| w.port(&self.names[p.block], p);
-        w.tag(0);
-        w.u32(1);
-        w.text("Types.Mode");
-        w.list(&["off", "on"], |w, m| w.text(m));
-        w.list(&blocks, |w, i| self.block(w, *i));
-        w.list(&self.ports, |w, p| self.connector(w, *p));
-        w.list(&self.links, |w, l| [l.0, l.1].into_iter().for_each(|p| port(w, p)));
-        w.list(&blocks, |w, i| w.block(&self.names[*i]));
-        w.list(&self.ports, |w, p| port(w, *p));
-        w.list(&self.ports, |w, p| [*p, *p].into_iter().for_each(|p| port(w, p)));
-        self.slots(w);
-        w.list(&self.outside, |w, p| port(w, *p));
-        w.list(&blocks[..blocks.len() / 10], |w, i| {
-            w.text(&format!("out{i}"));
-            port(w, Port { block: *i, out: true, number: 0 });
-        });
-        let mut paths: Vec<String> = self.outside.iter().map(|p| self.path(*p)).collect();
-        paths.sort();
-        w.list(&paths, |w, p| {
-            w.text(p);
-            [0, 0, 0].into_iter().for_each(|t| w.tag(t));
-        });
-        std::mem::take(&mut w.0)
-    }
-
-    fn slots(&self, w: &mut Wire) {
-        let stateful: Vec<usize> = (0..self.words.len()).filter(|i| self.words[*i] > 0).collect();
-        let mut at = 0;
-        w.list(&stateful, |w, i| {
-            w.block(&self.names[*i]);
-            w.u64(at);
-            w.u64(self.words[*i]);
-            at += self.words[*i];
-        });
-    }
-}
-
-/// A plant of about so many bytes, at most.
-fn plant(size: usize) -> Vec<u8> {
-    let each = Plant::new(10_000).bytes().len() as f64 / 10_000.0;
-    Plant::new((size as f64 / each * 0.995) as usize).bytes()
-}
-
-/// One class of so many members, in order or shuffled, and a block that names it.
-fn class(count: usize, shuffled: bool) -> Vec<u8> {
-    let mut members: Vec<usize> = (0..count).collect();
-    let dice = &mut Dice(1);
-    (1..if shuffled { count } else { 0 }).for_each(|i| members.swap(i, dice.below(i + 1)));
-    let w = &mut Wire::default();
-    w.tag(0);
-    w.u32(1);
-    w.text("Types.Large");
-    w.list(&members, |w, m| w.text(&format!("m{m:07}")));
-    w.list(&["b"], |w, b| {
-        w.block(b);
-        w.text("CDL.Reals.Add");
-        w.tag(0);
-        w.u32(0);
-        w.u64(0);
-        w.u32(1);
-        w.text("p");
-        w.tag(4);
-        w.text("Types.Large");
-        [1, 0, 0].into_iter().for_each(|n| w.u32(n));
-    });
-    [0, 0, 1].into_iter().for_each(|n| w.u32(n));
-    w.block("b");
-    [0; 6].into_iter().for_each(|n| w.u32(n));
-    std::mem::take(&mut w.0)
-}
-
-/// What the oracle says of decode_manifest: seconds of the best of five runs, and its answer.
-fn rust_time(oracle: &str, folder: &str, bytes: &[u8]) -> (f64, String) {
+/// What the oracle says of one of its functions: seconds of the best of five runs, and its answer.
+fn rust_time(oracle: &str, folder: &str, bytes: &[u8], function: &str) -> (f64, String) {
     let file = format!("{folder}/manifest");
     std::fs::write(&file, bytes).expect("write the manifest");
     let out = Command::new(oracle).args(["bench", &file, "-", "5"]).output().expect("run the oracle").stdout;
     let out = String::from_utf8_lossy(&out).to_string();
-    let line = out.lines().find(|l| l.starts_with("decode_manifest")).unwrap_or("");
+    let line = out.lines().find(|l| l.starts_with(function)).unwrap_or("");
     let ms = line.split("wall ").nth(1).and_then(|l| l.split(' ').next()).and_then(|n| n.parse::<f64>().ok());
     let answer = line.split(": ").nth(2).unwrap_or("?").split(" | ").next().unwrap_or("?");
     (ms.unwrap_or(0.0) / 1e3, answer.to_string())
@@ -258,8 +78,33 @@ fn row(name: &str, rounds: usize, bytes: &[u8], oracle: &[String]) {
     let rate = |t: f64| bytes.len() as f64 / t / 1e6;
     print!("| {name} | {:.1} | {:.1} | {:.0} |", bytes.len() as f64 / 1e6, best * 1e3, rate(best));
     if let [program, folder] = oracle {
-        let (rust, answer) = rust_time(program, folder, bytes);
+        let (rust, answer) = rust_time(program, folder, bytes, "decode_manifest");
         print!(" {:.1} | {:.1} | {answer} |", rust * 1e3, rust / best);
+    }
+    println!();
+}
+
+/// Two plants read and compared: equal ones, and ones that differ in the last parameter of the last block that has any.
+/// The Rust's time is twice its reading and the comparison of equal manifests, which goes through every field.
+fn verdict_row(size: usize, rounds: usize, oracle: &[String]) {
+    let bytes = plant(size << 20);
+    let mut other = bytes.clone();
+    let last = bytes.windows(10).rposition(|w| w == b"Types.Mode").expect("a parameter") + 10;
+    other[last] = 3 - other[last];
+    let (mut i, mut j) = (vec![0u32; index_words(bytes.len())], vec![0u32; index_words(bytes.len())]);
+    let mut time = |t: &[u8], verdict| {
+        (0..rounds).fold(f64::MAX, |best, _| {
+            let start = Instant::now();
+            assert_eq!(compare(&bytes, &mut i, t, &mut j), verdict);
+            best.min(start.elapsed().as_secs_f64())
+        })
+    };
+    let (same, differs) = (time(&bytes, (0, 0)), time(&other, (3, 7)));
+    print!("| two plants, {size} MiB each | {:.1} | {:.1} |", same * 1e3, differs * 1e3);
+    if let [program, folder] = oracle {
+        let of = |function| rust_time(program, folder, &bytes, function).0;
+        let rust = 2.0 * of("decode_manifest") + of("compare_manifests");
+        print!(" {:.1} | {:.1} | {:.1} |", rust * 1e3, rust / same, rust / differs);
     }
     println!();
 }
@@ -286,4 +131,10 @@ fn main() {
     }
     row("a class of 2,000,000 members, sorted", 5, &class(2_000_000, false), &oracle);
     row("the same, shuffled", 5, &class(2_000_000, true), &oracle);
+    print!("\n| compare_manifests, both read and compared | compatible, ms | differing in section 3, ms |");
+    print!("{}", if oracle.is_empty() { "" } else { " Rust, equal, ms | ratio | ratio |" });
+    println!("\n|---|---|---|{}", if oracle.is_empty() { "" } else { "---|---|---|" });
+    for (size, rounds) in [(1, 100), (16, 10)] {
+        verdict_row(size, rounds, &oracle);
+    }
 }
