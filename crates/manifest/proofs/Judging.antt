@@ -20,12 +20,13 @@ use Rattle.format.specs.Reading.{indexWords, readSections, readManifest}
 use Rattle.format.specs.Values.{valueAt, Well}
 use Rattle.format.proofs.Places.{end-got, starts-length}
 use Rattle.format.proofs.Values.{self, values-length, value-got, well, well-then, well-list}
+use Rattle.questions.specs.Sets.{sum}
 use Rattle.questions.specs.Portability.{targetBoundClasses}
 use Rattle.questions.specs.Order.{firstFailing}
 use Rattle.questions.specs.Answers.{judged, judge}
 use Rattle.questions.proofs.Accepted.{Passed, yields-passed}
 use Rattle.questions.proofs.Numbers.{late-failing}
-use Rattle.state_layout.specs.Tables.{manifestOf, counts, total, tableStart, roomStart, Tabled, Leaves}
+use Rattle.state_layout.specs.Tables.{manifestOf, counts, tableStart, roomStart, Tabled, Leaves}
 use Rattle.state_layout.proofs.Indexed.{starts-twelve, rows, start-le, start-there}
 use Rattle.state_manifest_codec.specs.Reads.{Reads}
 use Rattle.manifest.specs.Judges.{Judges}
@@ -35,8 +36,8 @@ limit = maxSnapshotBytes
 
 -- ---- as many words as there are sections and entries
 lists-long : (s : List ℕ) (es : List Section) (at : ℕ) → Well limit (sequence (map counted es)) s at
-    → length (entryStarts limit es s at) ≡ total (counts es (valueAt (sequence (map counted es)) s at))
-unfolding entryStarts counts total valueAt numberAt
+    → length (entryStarts limit es s at) ≡ sum (counts es (valueAt (sequence (map counted es)) s at))
+unfolding entryStarts counts sum valueAt numberAt
 lists-long s [] at w = refl
 lists-long s (e ∷ es) at w =
     let p = well-then limit s (counted e) (sequence (map counted es)) at w in
@@ -47,14 +48,14 @@ lists-long s (e ∷ es) at w =
     ∙ rw (starts-length limit (entry e) s (countAt s at) (at + 4), end-got limit (counted e) s at (p .0 .reads), lists-long s es (past (counted e) s at) (p .1), n, c)
 
 module _ (s : List ℕ) (w : Well limit manifest s 0) where
-  entries-long : length (manifestEntries limit s) ≡ unfold manifest in total (counts lists (manifestOf s .1))
+  entries-long : length (manifestEntries limit s) ≡ unfold manifest in sum (counts lists (manifestOf s .1))
   unfolding manifest manifestEntries valueAt
   entries-long =
       let p = well-then limit s portability (sequence (map counted lists)) 0 w in
       rw (end-got limit portability s 0 (p .0 .reads)) (lists-long s lists (past portability s 0) (p .1))
 
   words-long : length (manifestStarts limit s ++ manifestEntries limit s) ≡ roomStart s
-  unfolding manifest manifestStarts sectionStarts tableStart total counts
+  unfolding manifest manifestStarts sectionStarts tableStart sum counts
   words-long = length-append (manifestStarts limit s) (manifestEntries limit s) ∙ rw entries-long
 
 -- ---- a manifest that was read

@@ -40,6 +40,10 @@ unfoldable pub countDifferent : List (List ℕ) → ℕ
 countDifferent [] = 0
 countDifferent (k ∷ ks) = cond (isIn k ks) 0 1 + countDifferent ks
 
+unfoldable pub sum : List ℕ → ℕ
+sum [] = 0
+sum (n ∷ ns) = n + sum ns
+
 -- ---- a question's answer is 0 for yes and its number for no
 unfoldable pub _unless_ : (question : ℕ) → Bool → ℕ
 _unless_ q b = cond b 0 q

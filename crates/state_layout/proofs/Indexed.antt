@@ -17,22 +17,23 @@ use Rattle.format.proofs.Sizes.{sections-take}
 use Rattle.format.proofs.Values.{values-length, well-then}
 use Rattle.state_index.proofs.Lists.{slice-run}
 use Rattle.state_index.specs.Sort.{Kept}
-use Rattle.state_layout.specs.Tables.{manifestOf, counts, total, tableStart, tableOf, roomStart, Tabled, Table, Leaves}
+use Rattle.questions.specs.Sets.{sum}
+use Rattle.state_layout.specs.Tables.{manifestOf, counts, tableStart, tableOf, roomStart, Tabled, Table, Leaves}
 use Rattle.state_layout.proofs.Tables.{limit, Tables, lists-tables, pick, picked, span-after, table-picked}
 
 -- ---- words of the index
 span-front : (l : List ℕ) (r x y : ℕ) → y ≤ r → span (take r l) x y ≡ span l x y
 span-front l r x y h = sym (slice-run x y (take r l)) ∙ ap (drop x) (take-take y r l h) ∙ slice-run x y l
 
-total-le : (ns : List ℕ) (i j : ℕ) → i ≤ j → total (take i ns) ≤ total (take j ns)
-unfolding total
-total-le [] zero zero h = omega arith
-total-le [] zero (suc j) h = omega arith
-total-le [] (suc i) zero h = omega arith
-total-le [] (suc i) (suc j) h = omega arith
-total-le (n ∷ ns) zero j h = omega arith
-total-le (n ∷ ns) (suc i) zero h = absurd (omega arith)
-total-le (n ∷ ns) (suc i) (suc j) h = omega (arith, total-le ns i j (omega arith))
+sum-le : (ns : List ℕ) (i j : ℕ) → i ≤ j → sum (take i ns) ≤ sum (take j ns)
+unfolding sum
+sum-le [] zero zero h = omega arith
+sum-le [] zero (suc j) h = omega arith
+sum-le [] (suc i) zero h = omega arith
+sum-le [] (suc i) (suc j) h = omega arith
+sum-le (n ∷ ns) zero j h = omega arith
+sum-le (n ∷ ns) (suc i) zero h = absurd (omega arith)
+sum-le (n ∷ ns) (suc i) (suc j) h = omega (arith, sum-le ns i j (omega arith))
 
 module _ {s index : List ℕ} (t : Tabled s index) where
   entries-tables : unfold manifest in Tables s (t .bytes) lists (manifestEntries limit s) (manifestOf s .1)
@@ -54,11 +55,11 @@ module _ {s index : List ℕ} (t : Tabled s index) where
       ∙ ap (λ l. span l a b) (drop-at (manifestStarts limit s) (manifestEntries limit s) 12 starts-twelve)
 
   -- the words of the list at a place
-  table-at : (i : ℕ) → i < 11 → unfold manifest in Table (pick lists i) s (span index (12 + total (take i (counts lists (manifestOf s .1)))) (12 + total (take (suc i) (counts lists (manifestOf s .1))))) (picked lists (manifestOf s .1) i)
+  table-at : (i : ℕ) → i < 11 → unfold manifest in Table (pick lists i) s (span index (12 + sum (take i (counts lists (manifestOf s .1)))) (12 + sum (take (suc i) (counts lists (manifestOf s .1))))) (picked lists (manifestOf s .1) i)
   unfolding manifest tableStart
   table-at i h =
       let n = counts lists (manifestOf s .1) in
-      rw (entries-span (total (take i n)) (total (take (suc i) n)) (omega (arith, total-le n (suc i) 11 (omega arith))))
+      rw (entries-span (sum (take i n)) (sum (take (suc i) n)) (omega (arith, sum-le n (suc i) 11 (omega arith))))
       (table-picked s (t .bytes) lists (manifestEntries limit s) (manifestOf s .1) i (omega arith) entries-tables)
 
   pub table-enums : Table enums s (tableOf 2 s index) (enumsOf (manifestOf s))
@@ -122,7 +123,7 @@ pub record Rows (m : El manifest) : Type 0 where
   pub inputs : tableStart 13 m ≡ tableStart 12 m + length (inputDefinitionsOf m)
 
 pub rows : (m : El manifest) → Rows m
-unfolding manifest tableStart total counts enumsOf blocksOf connectorsOf connectionsOf scheduleOf connectorOrderOf driversOf slotsOf externalInputsOf boundaryOutputsOf inputDefinitionsOf
+unfolding manifest tableStart sum counts enumsOf blocksOf connectorsOf connectionsOf scheduleOf connectorOrderOf driversOf slotsOf externalInputsOf boundaryOutputsOf inputDefinitionsOf
 rows m = record {
   first = omega arith;
   enums = omega arith;
@@ -141,7 +142,7 @@ rows m = record {
 -- the room behind the tables: for marks of classes, blocks and connectors, and to sort connectors, slots, external inputs or boundary outputs
 all-rows : (m : El manifest) → tableStart 13 m ≡ 12 + length (enumsOf m) + length (blocksOf m) + length (connectorsOf m) + length (connectionsOf m) + length (scheduleOf m)
     + length (connectorOrderOf m) + length (driversOf m) + length (slotsOf m) + length (externalInputsOf m) + length (boundaryOutputsOf m) + length (inputDefinitionsOf m)
-unfolding manifest tableStart total counts enumsOf blocksOf connectorsOf connectionsOf scheduleOf connectorOrderOf driversOf slotsOf externalInputsOf boundaryOutputsOf inputDefinitionsOf
+unfolding manifest tableStart sum counts enumsOf blocksOf connectorsOf connectionsOf scheduleOf connectorOrderOf driversOf slotsOf externalInputsOf boundaryOutputsOf inputDefinitionsOf
 all-rows m = omega arith
 
 abbrev pub roomEnd : List ℕ → ℕ
@@ -184,12 +185,12 @@ tabled-kept {s} {old} {new} a b t k h = record {
 }
 
 -- ---- how far the tables reach
-total-next : (ns : List ℕ) (i : ℕ) → total (take (suc i) ns) ≡ total (take i ns) + getD ns i 0
-unfolding total
-total-next [] zero = refl
-total-next [] (suc i) = refl
-total-next (n ∷ ns) zero = omega arith
-total-next (n ∷ ns) (suc i) = omega (arith, total-next ns i)
+sum-next : (ns : List ℕ) (i : ℕ) → sum (take (suc i) ns) ≡ sum (take i ns) + getD ns i 0
+unfolding sum
+sum-next [] zero = refl
+sum-next [] (suc i) = refl
+sum-next (n ∷ ns) zero = omega arith
+sum-next (n ∷ ns) (suc i) = omega (arith, sum-next ns i)
 
 lists-counts : (s : List ℕ) (es : List Section) (at : ℕ) → Well limit (sequence (map counted es)) s at → (i : ℕ) → i < length es
     → getD (counts es (valueAt (sequence (map counted es)) s at)) i 0 ≡ numberAt 4 s (getD (sectionStarts limit (map counted es) s at) i 0)
@@ -202,7 +203,7 @@ lists-counts s (e ∷ es) at w (suc i) h =
 
 pub start-le : (m : El manifest) (k : ℕ) → k ≤ 13 → tableStart k m ≤ tableStart 13 m
 unfolding manifest tableStart
-start-le m k h = omega (arith, total-le (counts lists (m .1)) (k - 2) 11 (omega arith))
+start-le m k h = omega (arith, sum-le (counts lists (m .1)) (k - 2) 11 (omega arith))
 
 -- every table stands within the index
 pub start-there : {s index : List ℕ} → Tabled s index → (k : ℕ) → k ≤ 13 → tableStart k (manifestOf s) ≤ length index
@@ -243,7 +244,7 @@ module _ {s index : List ℕ} where
       let c = lists-counts s lists (past portability s 0) (well-then limit s portability (sequence (map counted lists)) 0 (t .well) .1) i (omega arith) in
       let a : 3 + i - 2 ≡ suc i = omega arith in
       let b : 2 + i - 2 ≡ i = omega arith in
-      rw (a, b, word-there t i h, ← c) (ap (λ (x : ℕ). 12 + x) (total-next (counts lists (manifestOf s .1)) i) ∙ omega arith)
+      rw (a, b, word-there t i h, ← c) (ap (λ (x : ℕ). 12 + x) (sum-next (counts lists (manifestOf s .1)) i) ∙ omega arith)
 
   pub reach-word : {section w k : ℕ} → Reaching s index section w k → k < section → k - 1 < length index
   reach-word r h = omega (arith, r .bound, room (r .tabled), all-rows (manifestOf s))

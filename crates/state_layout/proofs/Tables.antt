@@ -18,7 +18,8 @@ use Rattle.format.specs.Values.{valuesAt, valueAt, Well, WellEach}
 use Rattle.format.proofs.Sound.{read-sound}
 use Rattle.format.proofs.Places.{end-got}
 use Rattle.format.proofs.Values.{well-then, well-list}
-use Rattle.state_layout.specs.Tables.{counts, total, Table}
+use Rattle.questions.specs.Sets.{sum}
+use Rattle.state_layout.specs.Tables.{counts, Table}
 
 abbrev pub limit : ℕ
 limit = maxSnapshotBytes
@@ -80,10 +81,10 @@ module _ (s : List ℕ) (bytes : AreBytes s) where
       (t, lists-tables es (past (counted e) s at) (p .1))
 
   pub table-picked : (es : List Section) (ps : List ℕ) (v : El (sequence (map counted es))) (i : ℕ) → i < length es → Tables es ps v
-      → Table (pick es i) s (span ps (total (take i (counts es v))) (total (take (suc i) (counts es v)))) (picked es v i)
-  unfolding counts total
+      → Table (pick es i) s (span ps (sum (take i (counts es v))) (sum (take (suc i) (counts es v)))) (picked es v i)
+  unfolding counts sum
   table-picked [] ps v i h t = absurd (omega arith)
   table-picked (e ∷ es) ps v zero h t = let n : length (v .0) + 0 - 0 ≡ length (v .0) = omega arith in rw n (t .0)
   table-picked (e ∷ es) ps v (suc i) h t =
-      rw (span-after ps (length (v .0)) (total (take i (counts es (v .1)))) (total (take (suc i) (counts es (v .1)))))
+      rw (span-after ps (length (v .0)) (sum (take i (counts es (v .1)))) (sum (take (suc i) (counts es (v .1)))))
       (table-picked es (drop (length (v .0)) ps) (v .1) i (omega arith) (t .1))

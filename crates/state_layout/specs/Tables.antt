@@ -13,6 +13,7 @@ use Rattle.format.specs.Fields.{Entry}
 use Rattle.format.specs.Places.{manifestStarts, manifestEntries, past}
 use Rattle.format.specs.Reading.{indexWords}
 use Rattle.format.specs.Values.{valueAt, Well}
+use Rattle.questions.specs.Sets.{sum}
 
 -- the manifest that bytes spell; where they were accepted by questions 3 to 10, the one that was read
 abbrev pub manifestOf : List ℕ → El manifest
@@ -23,14 +24,10 @@ unfoldable pub counts : (es : List Section) → El (sequence (map counted es)) �
 counts [] v = []
 counts (e ∷ es) v = length (v .0) ∷ counts es (v .1)
 
-unfoldable pub total : List ℕ → ℕ
-total [] = 0
-total (n ∷ ns) = n + total ns
-
 -- the word from which on the entries of section k stand
 unfoldable pub tableStart : (k : ℕ) → El manifest → ℕ
 unfolding manifest
-tableStart k m = 12 + total (take (k - 2) (counts lists (m .1)))
+tableStart k m = 12 + sum (take (k - 2) (counts lists (m .1)))
 
 abbrev pub tableOf : (k : ℕ) → (s index : List ℕ) → List ℕ
 tableOf k s index = span index (tableStart k (manifestOf s)) (tableStart (suc k) (manifestOf s))

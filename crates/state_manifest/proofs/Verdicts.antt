@@ -11,7 +11,6 @@ use Rattle.text.proofs.Blocks.{both}
 use Rattle.state.specs.Bytes.{span}
 use Rattle.state.specs.declared.Verdict.{Verdict}
 use Rattle.state.specs.declared.Verdict.the-variants.{Compatible, Differs}
-use Rattle.state_wire.specs.Fields.{maxSnapshotBytes}
 use Rattle.format.specs.Lists.{same}
 use Rattle.format.specs.Format.{Fmt, El, encode}
 use Rattle.format.specs.Least.{honest}
@@ -26,11 +25,9 @@ use Rattle.format.proofs.Values.{well-then, written}
 use Rattle.verdict.specs.Verdict.{_orElse_, blockVerdict, Comparison, whole, listwise, entrywise, comparisons, formats, over, verdict}
 use Rattle.verdict.proofs.Faithful.{Faithful, AllFaithful, comparisons-faithful}
 use Rattle.state_layout.specs.Tables.{manifestOf}
+use Rattle.state_layout.proofs.Tables.{limit}
 use Rattle.state_manifest.specs.Comparing.{Both, named, comparison, Stands}
 use Rattle.state_manifest.proofs.Comparing.{or-next, or-found, both-first, both-next, field-is}
-
-abbrev limit : ℕ
-limit = maxSnapshotBytes
 
 -- ---- one of the comparisons
 abbrev pick : List Comparison → ℕ → Comparison

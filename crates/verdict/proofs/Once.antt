@@ -9,8 +9,9 @@ use lib.Dec.{ltb, leb, eqb}
 use borrow.Author.Tests.{leb-true, ltb-true, ltb-false, eqb-true, le-leb, lt-ltb}
 use Rattle.text.proofs.Blocks.{both}
 use Rattle.format.specs.Admits.{All}
+use Rattle.questions.specs.Sets.{sum}
 use Rattle.questions.specs.Slots.{joinFrom}
-use Rattle.verdict.specs.Demand3.{HoldsWord, HeldOnce, sum}
+use Rattle.verdict.specs.Demand3.{HoldsWord, HeldOnce}
 
 -- ---- how many slots hold a word
 -- the word after a slot's last

@@ -15,7 +15,7 @@ use Rattle.format.specs.Manifest.{blockRest, slotRest, blocks, stateSlots, mani
 use Rattle.format.specs.Fields.{Entry, blocksOf, slotsOf, blockKeyOf, stateLen, slotKey, slotLength}
 use Rattle.format.specs.Admits.{All, Holds}
 use Rattle.format.proofs.Pairwise.{ascending-iff}
-use Rattle.questions.specs.Sets.{keep, allIn, sameSet, first}
+use Rattle.questions.specs.Sets.{keep, allIn, sameSet, sum, first}
 use Rattle.questions.specs.Declarations.{blockNames, isStateful}
 use Rattle.questions.specs.Slots.{slotName, slotKeysAre, lengthIs, slotAnswer, words, byOffset, joinFrom, slots}
 use Rattle.questions.specs.Units.{wordTotal}
@@ -24,7 +24,7 @@ use Rattle.questions.proofs.Kept.{all-so, all-of-map, all-perm, keep-all}
 use Rattle.questions.proofs.Ascends.{Ascends, ascends, same-if, keep-ascends}
 use Rattle.questions.proofs.Named.{blockName, Alone, each-alone, length-is}
 use Rattle.questions.proofs.Sorted.{sort-perm}
-use Rattle.verdict.specs.Demand3.{HeldOnce, sum, stateWords, WordsHeld}
+use Rattle.verdict.specs.Demand3.{HeldOnce, stateWords, WordsHeld}
 use Rattle.verdict.proofs.Once.{end, one, has, held, sum-perm, exactly-one, ends-by, held-once}
 
 -- ---- the word total

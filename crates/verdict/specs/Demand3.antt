@@ -3,7 +3,7 @@
 use Prim.Native.Nat.{ℕ, _+_, _≤_, _<_}
 use mathlib.Core.Path.{_≡_}
 use mathlib.Core.Logic.{_↔_}
-use mathlib.Core.List.{List, [], _∷_, map}
+use mathlib.Core.List.{List, map}
 use lib.ListN.{length, getD, take}
 use Rattle.state.specs.Outcome.{got}
 use Rattle.state.specs.declared.Answer.the-variants.{Accepted}
@@ -16,7 +16,7 @@ use Rattle.format.specs.Format.{El}
 use Rattle.format.specs.Manifest.{manifest}
 use Rattle.format.specs.Fields.{blocksOf, slotsOf, stateLen}
 use Rattle.format.specs.Places.{sectionStart, sectionEnd}
-use Rattle.questions.specs.Sets.{keep}
+use Rattle.questions.specs.Sets.{keep, sum}
 use Rattle.questions.specs.Declarations.{isStateful}
 use Rattle.questions.specs.Slots.{words}
 use Rattle.questions.specs.Answers.{judge, decodeManifest}
@@ -74,10 +74,6 @@ pub record HeldOnce (slots : List (ℕ × ℕ)) (x : ℕ) : Type 0 where
   pub there : place < length slots
   pub holds : HoldsWord (getD slots place (0, 0)) x
   pub only : (j : ℕ) → j < length slots → HoldsWord (getD slots j (0, 0)) x → j ≡ place
-
-unfoldable pub sum : List ℕ → ℕ
-sum [] = 0
-sum (n ∷ ns) = n + sum ns
 
 -- "the sum of the stateful blocks' lengths", "in whole numbers, the lengths that section 3 gives"
 unfoldable pub stateWords : El manifest → ℕ
