@@ -5,21 +5,20 @@ use mathlib.Core.Path.{_≡_, refl, sym, ap, _∙_, subst}
 use mathlib.Core.List.{List, [], _∷_, _++_, map}
 use lib.ListN.{length, take, length-append}
 use lib.Seq.{take-at, take-take}
-use lib.Dec.{leb, eqb}
-use borrow.Author.Tests.{leb-true, le-leb, eqb-true}
+use borrow.Author.Tests.{le-leb}
 use Rattle.state.specs.Bytes.{AreBytes}
 use Rattle.state.specs.Outcome.{got, refused, stepOf}
 use Rattle.state.specs.declared.Step.{Step}
 use Rattle.state.specs.declared.Step.the-variants as step
-use Rattle.state.proofs.Outcome.{Yields, this, yielded, step-refused, step-yields, yields-ask, yields-bind}
+use Rattle.state.proofs.Outcome.{Yields, yielded, step-refused, step-yields}
 use Rattle.state_wire.specs.Fields.{maxSnapshotBytes}
-use Rattle.format.specs.Format.{El, read}
+use Rattle.format.specs.Format.{El}
 use Rattle.format.specs.Manifest.{Section, entry, counted, lists, sequence, portability, manifest}
 use Rattle.format.specs.Places.{countAt, numberAt, starts, sectionStarts, entryStarts, manifestStarts, manifestEntries, past}
-use Rattle.format.specs.Reading.{indexWords, readSections, readManifest}
+use Rattle.format.specs.Reading.{readManifest}
 use Rattle.format.specs.Values.{valueAt, Well}
 use Rattle.format.proofs.Places.{end-got, starts-length}
-use Rattle.format.proofs.Values.{self, values-length, value-got, well, well-then, well-list}
+use Rattle.format.proofs.Values.{values-length, value-got, well, well-then, well-list}
 use Rattle.questions.specs.Sets.{sum}
 use Rattle.questions.specs.Portability.{targetBoundClasses}
 use Rattle.questions.specs.Order.{firstFailing}

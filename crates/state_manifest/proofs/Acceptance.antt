@@ -1,8 +1,7 @@
 -- What the answer of `decode_manifest` tells, and what it leaves.
-use Prim.Native.Nat.{ℕ, _+_, _-_, _≤_}
+use Prim.Native.Nat.{ℕ, _+_, _-_}
 use native.Mathlib.Omega.{arith}
-use mathlib.Core.Path.{_≡_, refl, sym, ap, _∙_, subst}
-use mathlib.Core.Bool.{true}
+use mathlib.Core.Path.{_≡_, sym, ap, _∙_, subst}
 use mathlib.Core.List.{List, _++_}
 use lib.ListN.{length, replicate, length-append, length-replicate}
 use lib.Seq.{take-at}
@@ -15,12 +14,9 @@ use Rattle.state.specs.declared.Units.the-variants as units
 use Rattle.state.proofs.Outcome.{Yields, yielded}
 use Rattle.format.specs.Format.{El}
 use Rattle.format.specs.Manifest.{manifest}
-use Rattle.format.specs.Fields.{slotsOf}
 use Rattle.format.specs.Places.{manifestStarts, past}
 use Rattle.format.specs.Values.{valueAt}
 use Rattle.format.proofs.Values.{value-got, well}
-use Rattle.questions.specs.Sets.{all}
-use Rattle.questions.specs.Slots.{endFits}
 use Rattle.questions.specs.Portability.{targetBoundClasses}
 use Rattle.questions.specs.Answers.{judge, offsetAt, decodedOf, decodeManifest, decodedIndex}
 use Rattle.questions.specs.Units.{unitsAnswer, unitsIndex}

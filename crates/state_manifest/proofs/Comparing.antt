@@ -20,7 +20,7 @@ use Rattle.state_wire.specs.Fields.{maxSnapshotBytes}
 use Rattle.format.specs.Lists.{same}
 use Rattle.format.specs.Format.{Rule, Fmt, El, _then_, list}
 use Rattle.format.specs.Places.{numberAt, skip, past}
-use Rattle.format.specs.Values.{valuesAt, valueAt, Well, WellEach}
+use Rattle.format.specs.Values.{valuesAt, valueAt, WellEach}
 use Rattle.format.proofs.Values.{well-then, well-list, written}
 use Rattle.verdict.specs.Verdict.{_orElse_, field, along}
 use Rattle.state_manifest.specs.Comparing.{Both}
@@ -36,7 +36,7 @@ not-compatible v o e = go (subst (λ x. OneOf (1 ∷ 2 ∷ 3 ∷ []) (tagOf the-
     go (inr (inr x)) = omega (arith, x)
 
 -- the first is a difference, and so it is what both come to
-pub or-first : (v d : Verdict) → (v ≡ Compatible → ⊥) → v ≡ v orElse d
+or-first : (v d : Verdict) → (v ≡ Compatible → ⊥) → v ≡ v orElse d
 or-first Compatible d h = absurd (h refl)
 or-first (Differs k p e i) d h = refl
 or-first (SnapshotRefused q o) d h = refl
@@ -57,6 +57,7 @@ any-default (x ∷ l) (suc i) d e h = any-default l i d e (omega arith)
 
 -- ---- two values
 module _ {s t : List ℕ} where
+  -- the first of two stands where both do
   pub both-first : (f g : Fmt) {a b : ℕ} → Both (f then g) s t a b → Both f s t a b
   both-first f g {a} {b} h = record {
     bytes = h .bytes;
@@ -101,6 +102,7 @@ module _ (k r : Fmt) (c : ℕ → El (k then r) → El (k then r) → Verdict) (
     pub small : i + n < 2 ^ 64
 
 module _ {k r : Fmt} {c : ℕ → El (k then r) → El (k then r) → Verdict} {d : ℕ → Verdict} {s t : List ℕ} where
+  -- two lists that were read, at their first entries
   pub walk-start : (l : ℕ) (u : Rule) {a b n m p q : ℕ} → Both (list 4 l u k r) s t a b → n < 2 ^ 64
       → n ≡ numberAt 4 s a → m ≡ numberAt 4 t b → p ≡ min (a + 4) (length s) → q ≡ min (b + 4) (length t)
       → Walking k r c d s t (along c d 0 (valueAt (list 4 l u k r) s a) (valueAt (list 4 l u k r) t b)) (past (list 4 l u k r) s a) (past (list 4 l u k r) t b) n m p q 0
@@ -176,9 +178,11 @@ module _ {k r : Fmt} {c : ℕ → El (k then r) → El (k then r) → Verdict} {
 
     -- ---- one list has ended
     module _ (none : b ≡ false) {x : Verdict} (count : x ≡ cond (eqb n m) Compatible (d i)) where
+      -- not both have entries left
       none-left : (n m : ℕ) → b ≡ (ltb 0 (suc n) && ltb 0 (suc m)) → ⊥
       none-left n m h = false≢true (sym none ∙ h ∙ rw (lt-ltb 0 (suc n) (omega arith), lt-ltb 0 (suc m) (omega arith)))
 
+      -- what is left of the other decides
       pub walk-end : x ≡ v
       unfolding along
       walk-end = go n m test count w

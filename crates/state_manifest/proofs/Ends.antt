@@ -1,5 +1,4 @@
 -- No slot of a manifest that passes question 23 ends above 2^64 − 1.
-use Prim.Native.Nat.{ℕ}
 use mathlib.Core.Path.{_≡_, refl}
 use mathlib.Core.Bool.{true}
 use mathlib.Core.List.{List, [], _∷_, map}

@@ -2,7 +2,7 @@
 use Prim.Native.Nat.{ℕ, zero, suc, _+_, _-_, _≤_, _<_}
 use native.Mathlib.Omega.{arith}
 use mathlib.Core.Path.{_≡_, refl, sym, ap, _∙_, subst}
-use mathlib.Core.Bool.{Bool, true, false, cond}
+use mathlib.Core.Bool.{Bool, true, false}
 use mathlib.Core.List.{List, [], _∷_}
 use mathlib.Core.Logic.{_⊎_, inl, inr}
 use lib.ListN.{length, getD}
@@ -12,9 +12,8 @@ use Rattle.state.specs.Bytes.{span}
 use Rattle.state.specs.declared.Verdict.{Verdict}
 use Rattle.state.specs.declared.Verdict.the-variants.{Compatible, Differs}
 use Rattle.format.specs.Lists.{same}
-use Rattle.format.specs.Format.{Fmt, El, encode}
 use Rattle.format.specs.Least.{honest}
-use Rattle.format.specs.Manifest.{counted, sequence, blocks, inputDefinitions, sections, manifest}
+use Rattle.format.specs.Manifest.{counted, sequence, blocks, inputDefinitions, manifest}
 use Rattle.format.specs.Places.{sectionStarts, manifestStarts, past}
 use Rattle.format.specs.Values.{valueAt, Well}
 use Rattle.format.proofs.Lists.{same-true, same-differs}
@@ -33,11 +32,13 @@ use Rattle.state_manifest.proofs.Comparing.{or-next, or-found, both-fir
 abbrev pick : List Comparison → ℕ → Comparison
 pick cs i = getD cs i (entrywise 12 inputDefinitions)
 
+-- it finds what it must
 faithful-at : (k : ℕ) (cs : List Comparison) (i : ℕ) → i < length cs → AllFaithful k cs → Faithful (k + i) (pick cs i)
 faithful-at k [] i h a = absurd (omega arith)
 faithful-at k (c ∷ cs) zero h a = let e : k + 0 ≡ k = omega arith in rw e (a .0)
 faithful-at k (c ∷ cs) (suc i) h a = let e : k + suc i ≡ suc k + i = omega arith in rw e (faithful-at (suc k) cs i (omega arith) (a .1))
 
+-- its format is honest where all are
 honest-at : (cs : List Comparison) (i : ℕ) → i < length cs → honest (sequence (formats cs)) ≡ true → honest (pick cs i .format) ≡ true
 unfolding honest
 honest-at [] i h e = absurd (omega arith)
@@ -79,6 +80,7 @@ module _ (s t : List ℕ) where
   abbrev atPlace : (c : Comparison) (a b : ℕ) → Verdict
   atPlace c a b = c .compare (valueAt (c .format) s a) (valueAt (c .format) t b)
 
+  -- that one, or else those behind it
   left-next : (cs : List Comparison) (i a b : ℕ) → i < length cs
       → (atPlace (pick cs i) (startAt s cs i a) (startAt t cs i b) orElse leftFrom cs (suc i) a b) ≡ leftFrom cs i a b
   unfolding over valueAt
@@ -86,6 +88,7 @@ module _ (s t : List ℕ) where
   left-next (c ∷ cs) zero a b h = refl
   left-next (c ∷ cs) (suc i) a b h = left-next cs i (past (c .format) s a) (past (c .format) t b) (omega arith)
 
+  -- behind the last there is none
   left-none : (cs : List Comparison) (i a b : ℕ) → i ≡ length cs → leftFrom cs i a b ≡ Compatible
   unfolding over
   left-none [] zero a b h = refl
@@ -93,6 +96,7 @@ module _ (s t : List ℕ) where
   left-none (c ∷ cs) zero a b h = absurd (omega arith)
   left-none (c ∷ cs) (suc i) a b h = left-none cs i (past (c .format) s a) (past (c .format) t b) (omega arith)
 
+  -- sections that were read one after the other were read each at its start
   both-at : (cs : List Comparison) (i a b : ℕ) → i < length cs → Both (sequence (formats cs)) s t a b → Both (pick cs i .format) s t (startAt s cs i a) (startAt t cs i b)
   both-at [] i a b h w = absurd (omega arith)
   both-at (c ∷ cs) zero a b h w = both-first (c .format) (sequence (formats cs)) w
@@ -106,10 +110,11 @@ named-is k (inl e) = rw e
 named-is k (inr (inl e)) = rw e
 named-is k (inr (inr e)) = rw e
 
--- all others but the blocks as a whole
+-- the sections that are walked: the blocks, and these
 abbrev Walked : ℕ → Type 0
 Walked k = OneOf (3 ∷ []) k ⊎ OneOf (2 ∷ 4 ∷ 12 ∷ []) k
 
+-- of those numbered from k on, all others are compared as a whole
 abbrev Wholes : ℕ → List Comparison → Type 0
 Wholes k [] = Unit
 Wholes k (c ∷ cs) = ((Walked k → ⊥) → c ≡ whole k (c .format)) × Wholes (suc k) cs
@@ -160,6 +165,7 @@ pub record Left (s t : List ℕ) (k : ℕ) : Type 0 where
   pub to : k ≤ 13
   pub is : leftFrom s t comparisons (k - 1) 0 0 ≡ verdict (manifestOf s) (manifestOf t)
 
+-- before the first comparison, and behind the last
 pub left-start : (s t : List ℕ) → Left s t 1
 unfolding verdict manifest
 left-start s t = record { from = omega arith; to = omega arith; is = refl }

@@ -6,7 +6,7 @@ use Rattle.format.specs.Values.{valueAt}
 use Rattle.format.specs.Places.{past}
 use Rattle.format.specs.Manifest.{value, params, blockRest, counted, blocks}
 use Rattle.format.specs.Keys.{blockKey}
-use Rattle.format.specs.Format.{wire, plain, late, text}
+use Rattle.format.specs.Format.{plain, late, text}
 use Rattle.state.specs.declared.Verdict.the-variants.{Differs}
 use mathlib.Core.Path.{refl, sym, ap, _∙_}
 use native.Mathlib.Omega.{arith}

@@ -1,5 +1,5 @@
 use mathlib.Core.Path.{refl, sym, _∙_}
-use Rattle.state_manifest.proofs.Fields.{param-is, heads-are}
+use Rattle.state_manifest.proofs.Fields.{param-is}
 use Rattle.state_manifest.proofs.Comparing.{not-compatible, or-next, or-found}
 use borrow.Author.Needs.{needs}
 use Rattle.state_manifest.proofs.blocks.compare_parameter.Statement.{statement}

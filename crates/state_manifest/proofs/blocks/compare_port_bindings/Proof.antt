@@ -6,8 +6,7 @@ use Rattle.format.specs.Values.{valueAt}
 use Rattle.format.specs.Places.{past}
 use Rattle.format.specs.Manifest.{connectorKeys}
 use Rattle.format.specs.Keys.{connectorKey}
-use Rattle.format.specs.Format.{free, done, _then_}
-use mathlib.Core.Path.{sym, _∙_}
+use Rattle.format.specs.Format.{free, done}
 use borrow.Author.Needs.{needs}
 use Rattle.state_manifest.proofs.blocks.compare_port_bindings.Statement.{statement}
 use Rattle.state_manifest.proofs.blocks.compare_port_bindings.Tie as tie

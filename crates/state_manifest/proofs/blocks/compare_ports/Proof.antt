@@ -1,6 +1,6 @@
 use Rattle.state_manifest.proofs.Comparing.{not-compatible, or-next, or-found, both-first, both-next}
 use Rattle.format.specs.Manifest.{connectorKeys}
-use mathlib.Core.Path.{refl, _∙_}
+use mathlib.Core.Path.{_∙_}
 use native.Mathlib.Omega.{arith}
 use borrow.Author.Needs.{needs}
 use Rattle.state_manifest.proofs.blocks.compare_ports.Statement.{statement}

@@ -1,5 +1,4 @@
-use Prim.Native.Nat.{_-_, _≤_, _<_}
-use lib.ListN.{length}
+use Prim.Native.Nat.{_-_}
 use native.Mathlib.Omega.{arith}
 use lib.ListN.{List·getD-eq-default}
 use mathlib.Core.Path.{sym}
