@@ -19,6 +19,7 @@ use Rattle.format.specs.Places.{manifestStarts}
 use Rattle.questions.specs.Portability.{targetBoundClasses}
 use Rattle.questions.specs.Answers.{judge, offsetAt, refusal, acceptance, decodeManifest, decodedIndex}
 use Rattle.manifest.specs.Judges.{Judges}
+use Rattle.manifest.proofs.Judging.{tabled-starts}
 
 -- ---- the first words of a list, one by one
 abbrev pub firsts : (n : ℕ) → (ℕ → ℕ) → List ℕ
@@ -48,25 +49,27 @@ pub left-alone : (old : List ℕ) (q : ℕ) → q ≡ 2 → old ≡ cond (eqb q 
 left-alone old q e = rw (eq-eqb q 2 e)
 
 -- ---- the answer and the index at the end of a call
-module _ {s old mid : List ℕ} {revision : ℕ} (base : ℕ) {r : Step} (j : Judges s revision r old mid) where
-  pub ends-refused : {q p : ℕ} → r ≡ step.Refused q p → {d : Decoded} {new : List ℕ} → d ≡ refusal base q p → new ≡ cond (eqb q 2) mid (replicate (length mid) 0)
-      → (d ≡ decodeManifest targetBoundClasses s base revision old) × (new ≡ decodedIndex targetBoundClasses s revision old)
-  unfolding decodeManifest decodedIndex
-  ends-refused {q} {p} e a b =
-      let o : judge targetBoundClasses revision s (length old) ≡ refused q p = step-refused (judge targetBoundClasses revision s (length old)) (j .is) e in
-      (a ∙ rw o, b ∙ rw o (same q refl e))
+module _ {s old mid : List ℕ} {revision : ℕ} {r : Step} (j : Judges s revision r old mid) where
+  -- what a refusal leaves does not depend on the words that were written
+  pub refusal-leaves : {q p : ℕ} → r ≡ step.Refused q p → cond (eqb q 2) mid (replicate (length mid) 0) ≡ cond (eqb q 2) old (replicate (length old) 0)
+  refusal-leaves {q} {p} e = go (eqb q 2) refl
     where
-      same : (x : ℕ) → x ≡ q → r ≡ step.Refused q p → cond (eqb q 2) mid (replicate (length mid) 0) ≡ cond (eqb q 2) old (replicate (length old) 0)
-      same x _ e = go (eqb q 2) refl
-        where
-          go : (b : Bool) → eqb q 2 ≡ b → cond b mid (replicate {A = ℕ} (length mid) 0) ≡ cond b old (replicate (length old) 0)
-          go true h = j .untouched p (e ∙ ap (λ (n : ℕ). step.Refused n p) (eqb-true q 2 h))
-          go false h = ap (λ (n : ℕ). replicate n 0) (j .long)
+      go : (b : Bool) → eqb q 2 ≡ b → cond b mid (replicate {A = ℕ} (length mid) 0) ≡ cond b old (replicate (length old) 0)
+      go true h = j .untouched p (e ∙ ap (λ (n : ℕ). step.Refused n p) (eqb-true q 2 h))
+      go false h = ap (λ (n : ℕ). replicate n 0) (j .long)
 
-  pub ends-accepted : {n : ℕ} → r ≡ step.Next n → {d : Decoded} {new : List ℕ} → d ≡ acceptance (take 12 mid) → new ≡ take 12 mid ++ replicate (length mid - 12) 0
-      → (d ≡ decodeManifest targetBoundClasses s base revision old) × (new ≡ decodedIndex targetBoundClasses s revision old)
-  unfolding decodeManifest decodedIndex
-  ends-accepted {n} e a b =
-      let y = step-yields (always (judge targetBoundClasses revision s (length old))) (j .is) e in
-      let f : take 12 mid ≡ manifestStarts maxSnapshotBytes s = j .starts n e .1 in
-      (a ∙ rw (y .1, f), b ∙ rw (y .1, f, j .long))
+  module _ (base : ℕ) where
+    pub ends-refused : {q p : ℕ} → r ≡ step.Refused q p → {d : Decoded} {new : List ℕ} → d ≡ refusal base q p → new ≡ cond (eqb q 2) mid (replicate (length mid) 0)
+        → (d ≡ decodeManifest targetBoundClasses s base revision old) × (new ≡ decodedIndex targetBoundClasses s revision old)
+    unfolding decodeManifest decodedIndex
+    ends-refused {q} {p} e a b =
+        let o : judge targetBoundClasses revision s (length old) ≡ refused q p = step-refused (judge targetBoundClasses revision s (length old)) (j .is) e in
+        (a ∙ rw o, b ∙ rw o (refusal-leaves e))
+
+    pub ends-accepted : {n : ℕ} → r ≡ step.Next n → {d : Decoded} {new : List ℕ} → d ≡ acceptance (take 12 mid) → new ≡ take 12 mid ++ replicate (length mid - 12) 0
+        → (d ≡ decodeManifest targetBoundClasses s base revision old) × (new ≡ decodedIndex targetBoundClasses s revision old)
+    unfolding decodeManifest decodedIndex
+    ends-accepted {n} e a b =
+        let y = step-yields (always (judge targetBoundClasses revision s (length old))) (j .is) e in
+        let f : take 12 mid ≡ manifestStarts maxSnapshotBytes s = tabled-starts (j .tabled n e) .1 in
+        (a ∙ rw (y .1, f), b ∙ rw (y .1, f, j .long))

@@ -83,7 +83,8 @@ module _ {s old new : List ℕ} {n : ℕ} (bytes : AreBytes s) {r : Step} (reads
       }
 
 -- ---- the answer
-tabled-starts : {s index : List ℕ} → Tabled s index → (12 ≤ length index) × (take 12 index ≡ manifestStarts limit s)
+-- the first words of the tables are the starts
+pub tabled-starts : {s index : List ℕ} → Tabled s index → (12 ≤ length index) × (take 12 index ≡ manifestStarts limit s)
 tabled-starts {s} {index} t =
     let f : 12 ≤ roomStart s = omega (arith, rows (manifestOf s) .first, start-le (manifestOf s) 2 (omega arith)) in (
       omega (arith, f, start-there t 13 (omega arith)),
@@ -98,7 +99,7 @@ module _ {s old new : List ℕ} (revision : ℕ) {r : Step} (reads : Reads s r o
       let o : readManifest limit s (length old) ≡ refused q p = step-refused (readManifest limit s (length old)) (reads .is) e in
       record {
         is = e ∙ rw o;
-        starts = λ n i. let z : _≡_ {A = ℕ} 0 1 = cc (sym e ∙ i) in absurd (omega arith);
+        tabled = λ n i. let z : _≡_ {A = ℕ} 0 1 = cc (sym e ∙ i) in absurd (omega arith);
         untouched = λ x i. reads .untouched q p e (let z : q ≡ 2 = cc (sym e ∙ i) in omega (arith, z));
         long = reads .long;
       }
@@ -112,7 +113,7 @@ module _ {s old new : List ℕ} (revision : ℕ) {r : Step} (reads : Reads s r o
     pub judge-no : (q ≡ 0 → ⊥) → Judges s revision (step.Refused q n) old last
     judge-no h = record {
       is = rw judge-is (says q h);
-      starts = λ k i. let z : _≡_ {A = ℕ} 0 1 = cc in absurd (omega arith);
+      tabled = λ k i. let z : _≡_ {A = ℕ} 0 1 = cc in absurd (omega arith);
       untouched = λ x i. let z : q ≡ 2 = cc i in absurd (omega (arith, z, late));
       long = leaves .long ∙ reads .long;
     }
@@ -128,7 +129,7 @@ module _ {s old new : List ℕ} (revision : ℕ) {r : Step} (reads : Reads s r o
     pub judge-yes : q ≡ 0 → Judges s revision (step.Next n) old last
     judge-yes h = record {
       is = rw (judge-is, h);
-      starts = λ k i. tabled-starts (leaves .tabled);
+      tabled = λ k i. leaves .tabled;
       untouched = λ x i. let z : _≡_ {A = ℕ} 0 1 = cc in absurd (omega arith);
       long = leaves .long ∙ reads .long;
     }

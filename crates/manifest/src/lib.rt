@@ -51,7 +51,7 @@ fn starts_of(index: &[u32]) -> Starts
 }
 
 // A refusal: the index is cleared but after question 2.
-fn refused(base: u64, question: u8, position: usize, index: &mut [u32]) -> Decoded
+pub fn refused(base: u64, question: u8, position: usize, index: &mut [u32]) -> Decoded
     ensures { λ r. ⌜ r ≡ refusal base question position ⌝ }
     ensures { λ _. ⌜ now (index .exit) ≡ cond (eqb question 2) (now (index .entry)) (replicate (length (now (index .entry))) 0) ⌝ }
 {
@@ -64,7 +64,7 @@ fn refused(base: u64, question: u8, position: usize, index: &mut [u32]) -> Decod
 }
 
 // Acceptance: the first twelve words are the starts, and the others are cleared.
-fn accepted(index: &mut [u32]) -> Decoded
+pub fn accepted(index: &mut [u32]) -> Decoded
     requires { ⌜ 12 ≤ length (now index) ⌝ }
     ensures { λ r. ⌜ r ≡ acceptance (take 12 (now (index .entry))) ⌝ }
     ensures { λ _. ⌜ now (index .exit) ≡ take 12 (now (index .entry)) ++ replicate (length (now (index .entry)) - 12) 0 ⌝ }
@@ -78,7 +78,7 @@ fn accepted(index: &mut [u32]) -> Decoded
 }
 
 // Questions 1 to 32 on positions.
-fn judge(s: &[u8], revision: u32, index: &mut [u32]) -> Step
+pub fn judge(s: &[u8], revision: u32, index: &mut [u32]) -> Step
     ensures { λ r. ⌜ Judges (now (s .entry)) revision r (now (index .entry)) (now (index .exit)) ⌝ }
 {
     let read = read_manifest(s, index);

@@ -41,7 +41,7 @@ fn larger(a: u64, b: u64) -> u64
 }
 
 // The word total of the slots whose count stands at a position: the largest end.
-fn state_words(s: &[u8], at: usize) -> u64
+pub fn state_words(s: &[u8], at: usize) -> u64
     requires { ⌜ all endFits (valueAt (counted stateSlots) (now s) at) ≡ true ⌝ }
     ensures { λ r. ⌜ r ≡ wordTotal (valueAt (counted stateSlots) (now (s .entry)) at) ⌝ }
 {

@@ -1,9 +1,9 @@
 // Reads a manifest's twelve sections, questions 1 to 10, and keeps where its entries start in the lent index.
 mod entries;
 mod layouts;
-mod lists;
+pub mod lists;
 mod tables;
-mod values;
+pub mod values;
 
 use state::MAX_SNAPSHOT_BYTES;
 use state::Section;
