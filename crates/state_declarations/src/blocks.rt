@@ -1,8 +1,6 @@
 // Questions 12 to 14, block by block.
 use state::BlockKind;
 use state::WireDir;
-use state::WireValueType;
-use state_index::Found;
 use state_index::ahead;
 use state_index::keys::block_key_end;
 use state_index::keys::byte_at;
@@ -17,7 +15,7 @@ use state_layout::ends::connector_keys_end;
 use state_layout::ends::parameters_at;
 use state_layout::ends::parameters_end;
 use state_layout::ends::value_end;
-use state_layout::find_class;
+use state_layout::validate_value_enum;
 use state_wire::part;
 ghost use mathlib.Core.Path.{_≡_};
 ghost use mathlib.Core.List.{map};
@@ -27,10 +25,10 @@ ghost use Rattle.state.specs.Bytes.{AreBytes, span};
 ghost use Rattle.state_wire.specs.Fields.{maxSnapshotBytes};
 ghost use Rattle.format.specs.Keys.{blockKey, connectorKey};
 ghost use Rattle.format.specs.Admits.{All};
-ghost use Rattle.format.specs.Manifest.{value, connectorKeys, entry, enums, blocks};
+ghost use Rattle.format.specs.Manifest.{connectorKeys, entry, enums, blocks};
 ghost use Rattle.format.specs.Values.{valueAt, Well};
 ghost use Rattle.questions.specs.Sets.{first};
-ghost use Rattle.questions.specs.Declarations.{kindHolds, enumHolds, paramsHold, portHolds, portsHold, blockAnswer};
+ghost use Rattle.questions.specs.Declarations.{kindHolds, paramsHold, portHolds, portsHold, blockAnswer};
 ghost use Rattle.state_layout.specs.Marks.{Keyed};
 ghost use Rattle.state_layout.specs.Classes.{classesAt};
 
@@ -53,21 +51,6 @@ fn kind_holds(s: &[u8], at: usize) -> bool
     number_at(s, length) == 0
 }
 
-// Question 13 of the value at a position; the words from..to list the classes.
-fn validate_value_enum(s: &[u8], index: &[u32], from: usize, to: usize, at: usize) -> bool
-    requires { ⌜ Keyed enums (now s) (now index) from to to ⌝ }
-    ensures { λ r. ⌜ r ≡ enumHolds (classesAt (now (s .entry)) (now (index .entry)) from to) (valueAt value (now (s .entry)) at) ⌝ }
-{
-    if byte_at(s, at) != WireValueType::ENUM {
-        return true;
-    }
-    let f = find_class(s, index, from, to, at);
-    let Found::At(_) = f else {
-        return false;
-    };
-    true
-}
-
 // Question 13 of the block at a position.
 fn parameters_hold(s: &[u8], index: &[u32], from: usize, to: usize, at: usize) -> bool
     requires { ⌜ Keyed enums (now s) (now index) from to to ⌝ }
@@ -78,7 +61,7 @@ fn parameters_hold(s: &[u8], index: &[u32], from: usize, to: usize, at: usize) -
     let mut p = ahead(s, list, 4);
     while 0 < left {
         let v = text_end(s, p);
-        if !validate_value_enum(s, index, from, to, v) {
+        if !validate_value_enum(s, index, from, to, s, v) {
             return false;
         }
         p = value_end(s, v);

@@ -2,30 +2,21 @@
 use Prim.Native.Nat.{ℕ, zero, suc, _+_, min}
 use native.Mathlib.Omega.{arith}
 use mathlib.Core.Path.{_≡_, refl, sym, ap, _∙_}
-use mathlib.Core.Bool.{Bool, true, false, _&&_}
+use mathlib.Core.Bool.{Bool, true, false}
 use mathlib.Core.List.{List, [], _∷_, _++_, map, map-append}
 use lib.ListN.{length, getD}
-use lib.Dec.{eqb}
 use borrow.Author.Tests.{eq-eqb, ne-eqb}
-use Rattle.format.specs.Format.{El, done, _then_}
+use Rattle.format.specs.Format.{El, done}
 use Rattle.format.specs.Manifest.{valueType, value, optional, enums}
-use Rattle.format.specs.Fields.{Entry, typeTag, typeClass, valueTag, given}
+use Rattle.format.specs.Fields.{Entry, valueTag, given}
 use Rattle.format.specs.Values.{valueAt}
-use Rattle.questions.specs.Sets.{allIn, first, _unless_}
+use Rattle.questions.specs.Sets.{first, _unless_}
 use Rattle.questions.specs.Declarations.{enumHolds}
 use Rattle.questions.proofs.Chains.{says-yes, says-no, first-one, group-no, group-yes}
-use Rattle.questions.specs.Inputs.{sameType, hasType, boundHolds, boundAnswer}
-use Rattle.state_layout.proofs.Choosing.{typed, valued, typed-class, valued-class, no-enum}
+use Rattle.questions.specs.Inputs.{sameType, boundHolds, boundAnswer}
+use Rattle.state_layout.proofs.Choosing.{has-type}
 
 module _ (s : List ℕ) (at : ℕ) where
-  -- the class of an enum value stands where that of an enum type does
-  has-type : (t : El valueType) → hasType (valueAt value s at) t ≡ sameType (valueAt valueType s at) t
-  unfolding hasType sameType valueTag typeTag valueAt value valueType valued typed
-  has-type t =
-      let k : ℕ = getD s at 0 in
-      let p : ℕ = min (at + 1) (length s) in
-      ap (λ (l : List (List ℕ)). eqb k (typeTag t) && allIn l (typeClass t)) (valued-class s k p ∙ sym (typed-class s k p))
-
   tag-of : valueTag (valueAt value s at) ≡ getD s at 0
   unfolding valueTag valueAt value
   tag-of = refl
@@ -49,22 +40,20 @@ module _ (s : List ℕ) (at : ℕ) where
     module _ (n : k ≡ 2 → ⊥) (m : k ≡ 3 → ⊥) {r : Bool} (er : r ≡ sameType (valueAt valueType s at) t) where
       typed-bound : boundHolds t (valueAt value s at) ≡ r
       unfolding boundHolds
-      typed-bound = rw (tag-of, ← ek, ne-eqb k 2 n, ne-eqb k 3 m) (has-type t ∙ sym er)
+      typed-bound = rw (tag-of, ← ek, ne-eqb k 2 n, ne-eqb k 3 m) (has-type s at t ∙ sym er)
 
       pub bound-type : r ≡ false → 29 ≡ answer
       bound-type e = refused (typed-bound ∙ e)
 
-      module _ (yes : r ≡ true) where
-        pub bound-holds : enumHolds es (valueAt value s at) ≡ true → 0 ≡ answer
-        unfolding boundAnswer first
-        bound-holds e = sym (says-yes 29 (30 unless (enumHolds es (valueAt value s at)) ∷ []) (typed-bound ∙ yes) ∙ says-yes 30 [] e)
-
-        pub bound-fails : enumHolds es (valueAt value s at) ≡ false → 30 ≡ answer
+      -- question 30, of a value of that type
+      module _ (yes : r ≡ true) {h : Bool} (eh : h ≡ enumHolds es (valueAt value s at)) where
+        pub bound-fails : h ≡ false → 30 ≡ answer
         unfolding boundAnswer
-        bound-fails e = says-no 29 [] e ∙ sym (says-yes 29 _ (typed-bound ∙ yes))
+        bound-fails e = says-no 29 [] (sym eh ∙ e) ∙ sym (says-yes 29 _ (typed-bound ∙ yes))
 
-        pub bound-plain : (k ≡ 4 → ⊥) → 0 ≡ answer
-        bound-plain l = bound-holds (sym (no-enum s at es ek l))
+        pub bound-holds : h ≡ true → 0 ≡ answer
+        unfolding boundAnswer first
+        bound-holds e = sym (says-yes 29 (30 unless (enumHolds es (valueAt value s at)) ∷ []) (typed-bound ∙ yes) ∙ says-yes 30 [] (sym eh ∙ e))
 
 -- ---- a bound that may be left out
 abbrev opted : (s : List ℕ) (t p : ℕ) → El (optional value)

@@ -11,8 +11,8 @@ use state_index::text_part;
 use state_index::word_at;
 use state_layout::ends::bound_end;
 use state_layout::ends::type_end;
-use state_layout::find_class;
 use state_layout::same_type;
+use state_layout::validate_value_enum;
 ghost use mathlib.Core.Path.{_≡_};
 ghost use mathlib.Core.List.{_++_, map};
 ghost use Prim.Native.Nat.{_≤_};
@@ -39,17 +39,13 @@ fn value_answer(s: &[u8], index: &[u32], classes: usize, end: usize, t: usize, a
     if tag == WireValueType::STRING {
         return 29;
     }
-    if !same_type(s, at, t) {
+    if !same_type(s, at, s, t) {
         return 29;
     }
-    if tag != WireValueType::ENUM {
-        return 0;
+    if !validate_value_enum(s, index, classes, end, s, at) {
+        return 30;
     }
-    let f = find_class(s, index, classes, end, at);
-    match f {
-        Found::At(_) => 0,
-        Found::Nothing => 30,
-    }
+    0
 }
 
 // The same of a bound that may be left out.
@@ -111,7 +107,7 @@ fn definition_answer(
         return 28;
     };
     let t = text_end(s, at);
-    if !same_type(s, t, type_at(s, word_at(index, w))) {
+    if !same_type(s, t, s, type_at(s, word_at(index, w))) {
         return 28;
     }
     let minimum = type_end(s, t);

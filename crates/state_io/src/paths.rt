@@ -136,7 +136,7 @@ fn agree_next(s: &[u8], index: &[u32], i: usize, to: usize) -> bool
     if !same_bytes(text_part(s, a), text_part(s, b)) {
         return true;
     }
-    same_type(s, type_at(s, a), type_at(s, b))
+    same_type(s, type_at(s, a), s, type_at(s, b))
 }
 
 // Have neighbours of one path one type?

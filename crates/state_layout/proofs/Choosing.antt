@@ -1,8 +1,8 @@
 -- What a tag chooses, where it ends, and where a list does.
 use Prim.Native.Nat.{ℕ, zero, suc, _+_, _-_, _≤_, _<_, min}
 use native.Mathlib.Omega.{arith}
-use mathlib.Core.Path.{_≡_, refl, sym, _∙_}
-use mathlib.Core.Bool.{true, false, cond, and-true, or-false}
+use mathlib.Core.Path.{_≡_, refl, sym, ap, _∙_}
+use mathlib.Core.Bool.{true, false, cond, _&&_, and-true, or-false}
 use mathlib.Core.List.{List, [], _∷_}
 use lib.ListN.{length, getD, List·getD-eq-default}
 use lib.Dec.{eqb}
@@ -10,12 +10,12 @@ use borrow.Author.Tests.{eq-eqb, ne-eqb}
 use Rattle.format.specs.Lists.{same, isIn}
 use Rattle.format.specs.Format.{Rule, Fmt, El, done, number, tag, text, _then_, list, choice}
 use Rattle.format.specs.Manifest.{optional, valueType, value, enums}
-use Rattle.format.specs.Fields.{Entry, typeTag, typeClass, valueClass}
+use Rattle.format.specs.Fields.{Entry, typeTag, typeClass, valueTag, valueClass}
 use Rattle.format.specs.Places.{numberAt, skip, past}
 use Rattle.format.specs.Values.{valueAt}
 use Rattle.questions.specs.Sets.{all, allIn}
 use Rattle.questions.specs.Declarations.{enumHolds}
-use Rattle.questions.specs.Inputs.{sameType}
+use Rattle.questions.specs.Inputs.{sameType, hasType}
 
 -- ---- what the tags of types, values and options choose
 abbrev pub types : List Fmt
@@ -29,7 +29,7 @@ unfoldable pub typed : List ℕ → (t p : ℕ) → El valueType
 unfolding valueType
 typed s t p = (t, valueAt (getD types t done) s p)
 
-unfoldable pub valued : List ℕ → (t p : ℕ) → El value
+unfoldable valued : List ℕ → (t p : ℕ) → El value
 unfolding value
 valued s t p = (t, valueAt (getD values t done) s p)
 
@@ -47,7 +47,7 @@ module _ (s : List ℕ) where
   typed-class (suc (suc (suc (suc zero)))) p = refl
   typed-class (suc (suc (suc (suc (suc t))))) p = rw (ne-eqb (suc (suc (suc (suc (suc t))))) 4 (λ e. omega arith))
 
-  pub valued-class : (t p : ℕ) → valueClass (valued s t p) ≡ classOf s t p
+  valued-class : (t p : ℕ) → valueClass (valued s t p) ≡ classOf s t p
   unfolding valueClass valued value valueAt
   valued-class zero p = refl
   valued-class (suc zero) p = refl
@@ -64,6 +64,14 @@ module _ (s : List ℕ) where
   pub no-enum : (at : ℕ) (es : List (Entry enums)) {t : ℕ} → t ≡ getD s at 0 → (t ≡ 4 → ⊥) → true ≡ enumHolds es (valueAt value s at)
   unfolding enumHolds all
   no-enum at es {t} e n = rw (value-class at, ← e, ne-eqb t 4 n)
+
+  -- a value has a type if the type at its position is that one: the class of an enum value stands where that of an enum type does
+  pub has-type : (at : ℕ) (u : El valueType) → hasType (valueAt value s at) u ≡ sameType (valueAt valueType s at) u
+  unfolding hasType sameType valueTag typeTag valueAt value valueType valued typed
+  has-type at u =
+      let k : ℕ = getD s at 0 in
+      let p : ℕ = min (at + 1) (length s) in
+      ap (λ (l : List (List ℕ)). eqb k (typeTag u) && allIn l (typeClass u)) (valued-class k p ∙ sym (typed-class k p))
 
 -- a type that is no enum has no bytes behind its tag
 plain : (t : ℕ) → (t ≡ 4 → ⊥) → getD types t done ≡ done
@@ -150,29 +158,34 @@ module _ (k r : Fmt) (s : List ℕ) where
   list-end (suc n) l h = absurd (omega arith)
 
 -- ---- one type or two
-module _ (s : List ℕ) where
-  type-typed : (at : ℕ) → valueAt valueType s at ≡ typed s (getD s at 0) (min (at + 1) (length s))
-  unfolding valueAt valueType typed
-  type-typed at = refl
+type-typed : (s : List ℕ) (at : ℕ) → valueAt valueType s at ≡ typed s (getD s at 0) (min (at + 1) (length s))
+unfolding valueAt valueType typed
+type-typed s at = refl
 
-  typed-apart : (t u p q : ℕ) → (t ≡ u → ⊥) → sameType (typed s t p) (typed s u q) ≡ false
+-- the types of tags in s and in t
+module _ (s t : List ℕ) where
+  typed-apart : (k l p q : ℕ) → (k ≡ l → ⊥) → sameType (typed s k p) (typed t l q) ≡ false
   unfolding sameType typeTag typed valueType
-  typed-apart t u p q n = rw (ne-eqb t u n)
+  typed-apart k l p q n = rw (ne-eqb k l n)
 
-  typed-plain : (t p q : ℕ) → (t ≡ 4 → ⊥) → sameType (typed s t p) (typed s t q) ≡ true
+  typed-plain : (k p q : ℕ) → (k ≡ 4 → ⊥) → sameType (typed s k p) (typed t k q) ≡ true
   unfolding sameType typeTag typed valueType allIn all
-  typed-plain t p q n = rw (eq-eqb t t refl, typed-class s t p, ne-eqb t 4 n)
+  typed-plain k p q n = rw (eq-eqb k k refl, typed-class s k p, ne-eqb k 4 n)
 
-  typed-enum : (p q : ℕ) → sameType (typed s 4 p) (typed s 4 q) ≡ same (valueAt text s p) (valueAt text s q)
+  typed-enum : (p q : ℕ) → sameType (typed s 4 p) (typed t 4 q) ≡ same (valueAt text s p) (valueAt text t q)
   unfolding sameType typeTag typeClass typed valueType allIn all isIn
   typed-enum p q = and-true _ ∙ or-false _
 
-module _ (s : List ℕ) (a b : ℕ) {t u : ℕ} (et : t ≡ getD s a 0) (eu : u ≡ getD s b 0) where
-  pub types-apart : (t ≡ u → ⊥) → false ≡ sameType (valueAt valueType s a) (valueAt valueType s b)
-  types-apart n = rw (type-typed s a, type-typed s b, ← et, ← eu) (sym (typed-apart s t u _ _ n))
+-- the types at a of s and at b of t, by their tags
+module _ (s t : List ℕ) (a b : ℕ) {k l : ℕ} (ek : k ≡ getD s a 0) (el : l ≡ getD t b 0) where
+  -- of two tags they differ
+  pub types-apart : (k ≡ l → ⊥) → false ≡ sameType (valueAt valueType s a) (valueAt valueType t b)
+  types-apart n = rw (type-typed s a, type-typed t b, ← ek, ← el) (sym (typed-apart s t k l _ _ n))
 
-  pub types-plain : t ≡ u → (t ≡ 4 → ⊥) → true ≡ sameType (valueAt valueType s a) (valueAt valueType s b)
-  types-plain i n = rw (type-typed s a, type-typed s b, ← et, ← eu, ← i) (sym (typed-plain s t _ _ n))
+  -- of one tag that is no enum's they are one
+  pub types-plain : k ≡ l → (k ≡ 4 → ⊥) → true ≡ sameType (valueAt valueType s a) (valueAt valueType t b)
+  types-plain i n = rw (type-typed s a, type-typed t b, ← ek, ← el, ← i) (sym (typed-plain s t k _ _ n))
 
-  pub types-enum : t ≡ u → t ≡ 4 → {p q : ℕ} → p ≡ min (a + 1) (length s) → q ≡ min (b + 1) (length s) → {x y : List ℕ} → x ≡ valueAt text s p → y ≡ valueAt text s q → same x y ≡ sameType (valueAt valueType s a) (valueAt valueType s b)
-  types-enum i z ep eq ex ey = rw (type-typed s a, type-typed s b, ← et, ← eu, ← i, z, ← ep, ← eq, ex, ey) (sym (typed-enum s _ _))
+  -- enums are one if their classes are
+  pub types-enum : k ≡ l → k ≡ 4 → {p q : ℕ} → p ≡ min (a + 1) (length s) → q ≡ min (b + 1) (length t) → {x y : List ℕ} → x ≡ valueAt text s p → y ≡ valueAt text t q → same x y ≡ sameType (valueAt valueType s a) (valueAt valueType t b)
+  types-enum i z ep eq ex ey = rw (type-typed s a, type-typed t b, ← ek, ← el, ← i, z, ← ep, ← eq, ex, ey) (sym (typed-enum s t _ _))

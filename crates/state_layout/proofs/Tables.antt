@@ -9,9 +9,9 @@ use lib.Seq.{take-at, drop-at, drop-drop}
 use borrow.Author.Tests.{le-leb}
 use Rattle.state.specs.Bytes.{AreBytes, span}
 use Rattle.state_wire.specs.Fields.{maxSnapshotBytes}
-use Rattle.format.specs.Format.{El, _then_}
+use Rattle.format.specs.Format.{El}
 use Rattle.format.specs.Admits.{All, Holds}
-use Rattle.format.specs.Manifest.{Section, entry, counted, sequence, inputDefinitions, manifest}
+use Rattle.format.specs.Manifest.{Section, entry, counted, sequence, inputDefinitions}
 use Rattle.format.specs.Fields.{Entry}
 use Rattle.format.specs.Places.{countAt, numberAt, endAt, starts, entryStarts, past}
 use Rattle.format.specs.Values.{valuesAt, valueAt, Well, WellEach}

@@ -14,57 +14,62 @@ use state_index::text_part;
 use state_index::word_at;
 use state_key_order::same_bytes;
 ghost use mathlib.Core.Path.{_≡_};
-ghost use Rattle.format.specs.Manifest.{valueType, enums};
+ghost use Rattle.format.specs.Manifest.{valueType, value, enums};
 ghost use Rattle.format.specs.Values.{valueAt};
+ghost use Rattle.questions.specs.Declarations.{enumHolds};
 ghost use Rattle.questions.specs.Inputs.{sameType};
 ghost use Prim.Native.Nat.{_≤_};
 ghost use Rattle.state_layout.specs.Tables.{Tabled, tableStart, manifestOf};
-ghost use lib.ListN.{getD};
 ghost use Rattle.state_layout.specs.Marks.{Keyed};
-ghost use Rattle.state_layout.specs.Classes.{FindsClass};
+ghost use Rattle.state_layout.specs.Classes.{classesAt};
 
-// Are the value types at two positions one?
-pub fn same_type(s: &[u8], a: usize, b: usize) -> bool
-    ensures { λ r. ⌜ r ≡ sameType (valueAt valueType (now (s .entry)) a) (valueAt valueType (now (s .entry)) b) ⌝ }
+// Are the value types at a position of s and at one of t the same?
+pub fn same_type(s: &[u8], a: usize, t: &[u8], b: usize) -> bool
+    ensures { λ r. ⌜ r ≡ sameType (valueAt valueType (now (s .entry)) a) (valueAt valueType (now (t .entry)) b) ⌝ }
 {
     let tag = byte_at(s, a);
-    if tag != byte_at(s, b) {
+    if tag != byte_at(t, b) {
         return false;
     }
     if tag != WireValueType::ENUM {
         return true;
     }
-    same_bytes(text_part(s, ahead(s, a, 1)), text_part(s, ahead(s, b, 1)))
+    same_bytes(text_part(s, ahead(s, a, 1)), text_part(t, ahead(t, b, 1)))
 }
 
-// The word, of from..to, of the class of the enum value at a position; nothing where none has that path and a member of that ordinal.
-pub fn find_class(s: &[u8], index: &[u32], from: usize, to: usize, at: usize) -> Found
+// Is the value at a position of t of a class that the words from..to list, its ordinal in range, if it is an enum value at all?
+pub fn validate_value_enum(
+    s: &[u8],
+    index: &[u32],
+    from: usize,
+    to: usize,
+    t: &[u8],
+    at: usize,
+) -> bool
     requires { ⌜ Keyed enums (now s) (now index) from to to ⌝ }
-    requires { ⌜ getD (now s) at 0 ≡ 4 ⌝ }
-    ensures { λ r. ⌜ FindsClass (now (s .entry)) (now (index .entry)) from to at r ⌝ }
+    ensures { λ r. ⌜ r ≡ enumHolds (classesAt (now (s .entry)) (now (index .entry)) from to) (valueAt value (now (t .entry)) at) ⌝ }
 {
-    let class = ahead(s, at, 1);
+    if byte_at(t, at) != WireValueType::ENUM {
+        return true;
+    }
+    let class = ahead(t, at, 1);
     let f = find(
         s,
         Section::ENUMS,
         index,
         from,
         to,
-        text_part(s, class),
+        text_part(t, class),
         from,
     );
     let Found::At(w) = f else {
-        return f;
+        return false;
     };
-    let ordinal = count_at(s, text_end(s, class));
-    let members = count_at(s, text_end(s, word_at(index, w)));
+    let ordinal = count_at(t, text_end(t, class));
     if ordinal == 0 {
-        return Found::Nothing;
+        return false;
     }
-    if members < ordinal {
-        return Found::Nothing;
-    }
-    f
+    ordinal <= count_at(s, text_end(s, word_at(index, w)))
 }
 
 // From which word of the index on the entries of a section stand; those of section 13 would stand behind all others.

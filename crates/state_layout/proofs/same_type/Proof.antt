@@ -11,10 +11,10 @@ byte-at-requires-2 : tie.Need-byte-at-requires-2
 byte-at-requires-2 c κs = search needs
 
 returns : tie.Need-returns
-returns c = types-apart _ _ _ (c .before .before .byte-at .ensures) (c .before .byte-at2 .ensures) (c .if1 .taken)
+returns c = types-apart _ _ _ _ (c .before .before .byte-at .ensures) (c .before .byte-at2 .ensures) (c .if1 .taken)
 
 returns-2 : tie.Need-returns-2
-returns-2 c = types-plain _ _ _ (c .before .before .before .byte-at .ensures) (c .before .before .byte-at2 .ensures) (c .before .if1 .left) (c .if2 .taken)
+returns-2 c = types-plain _ _ _ _ (c .before .before .before .byte-at .ensures) (c .before .before .byte-at2 .ensures) (c .before .if1 .left) (c .if2 .taken)
 
 ahead-requires : tie.Need-ahead-requires
 ahead-requires c κs = search needs
@@ -32,7 +32,7 @@ same-bytes-requires : tie.Need-same-bytes-requires
 same-bytes-requires c κs = search needs
 
 returns-3 : tie.Need-returns-3
-returns-3 c = c .same-bytes .ensures ∙ types-enum _ _ _ (c .before .before .before .before .before .before .before .before .byte-at .ensures) (c .before .before .before .before .before .before .before .byte-at2 .ensures) (c .before .before .before .before .before .before .if1 .left) (c .before .before .before .before .before .if2 .left) (c .before .before .before .before .ahead .ensures) (c .before .before .ahead2 .ensures) (c .before .before .before .text-part .ensures) (c .before .text-part2 .ensures)
+returns-3 c = c .same-bytes .ensures ∙ types-enum _ _ _ _ (c .before .before .before .before .before .before .before .before .byte-at .ensures) (c .before .before .before .before .before .before .before .byte-at2 .ensures) (c .before .before .before .before .before .before .if1 .left) (c .before .before .before .before .before .if2 .left) (c .before .before .before .before .ahead .ensures) (c .before .before .ahead2 .ensures) (c .before .before .before .text-part .ensures) (c .before .text-part2 .ensures)
 
 pub same-type-spec : {M : Type 1} → statement M
 same-type-spec =

@@ -1,4 +1,4 @@
-use Rattle.state_io.proofs.Bounded.{bound-boolean, bound-string, bound-type, bound-plain, bound-holds, bound-fails}
+use Rattle.state_io.proofs.Bounded.{bound-boolean, bound-string, bound-type, bound-fails, bound-holds}
 use borrow.Author.Tests.{not-true, not-false}
 use borrow.Author.Needs.{needs}
 use Rattle.state_io.proofs.definitions.value_answer.Statement.{statement}
@@ -23,45 +23,28 @@ returns-3 c =
     let b = i1 .before in
     bound-type _ _ _ _ (b .byte-at .ensures) (i1 .if1 .left) (i2 .if2 .left) (c .before .same-type .ensures) (not-true _ (c .if3 .taken))
 
+validate-value-enum-requires : tie.Need-validate-value-enum-requires
+validate-value-enum-requires c κs = search needs
+
 returns-4 : tie.Need-returns-4
 returns-4 c =
-    let st = c .before .before in
-    let i2 = st .before in
-    let i1 = i2 .before in
-    let b = i1 .before in
-    bound-plain _ _ _ _ (b .byte-at .ensures) (i1 .if1 .left) (i2 .if2 .left) (st .same-type .ensures) (not-false _ (c .before .if3 .left))
-    (c .if4 .taken)
-
-find-class-requires : tie.Need-find-class-requires
-find-class-requires c κs = search needs
-
-enum-told : tie.Need-enum-told
-enum-told c = search needs
-
-enum-told-2 : tie.Need-enum-told-2
-enum-told-2 c = search needs
-
-returns-5 : tie.Need-returns-5
-returns-5 c =
-    let f = c .before .before in
-    let i3 = f .before .before in
-    let st = i3 .before in
-    let i2 = st .before in
-    let i1 = i2 .before in
-    let b = i1 .before in
-    bound-holds _ _ _ _ (b .byte-at .ensures) (i1 .if1 .left) (i2 .if2 .left) (st .same-type .ensures) (not-false _ (i3 .if3 .left))
-    (f .find-class .ensures .at _ (c .enum-told .given .1) .3)
-
-returns-6 : tie.Need-returns-6
-returns-6 c =
-    let f = c .before .before in
-    let i3 = f .before .before in
+    let i3 = c .before .before in
     let st = i3 .before in
     let i2 = st .before in
     let i1 = i2 .before in
     let b = i1 .before in
     bound-fails _ _ _ _ (b .byte-at .ensures) (i1 .if1 .left) (i2 .if2 .left) (st .same-type .ensures) (not-false _ (i3 .if3 .left))
-    (f .find-class .ensures .nothing (c .enum-told2 .given .1))
+    (c .before .validate-value-enum .ensures) (not-true _ (c .if4 .taken))
+
+returns-5 : tie.Need-returns-5
+returns-5 c =
+    let i3 = c .before .before in
+    let st = i3 .before in
+    let i2 = st .before in
+    let i1 = i2 .before in
+    let b = i1 .before in
+    bound-holds _ _ _ _ (b .byte-at .ensures) (i1 .if1 .left) (i2 .if2 .left) (st .same-type .ensures) (not-false _ (i3 .if3 .left))
+    (c .before .validate-value-enum .ensures) (not-false _ (c .if4 .left))
 
 pub value-answer-spec : {M : Type 1} → statement M
 value-answer-spec =
@@ -72,9 +55,6 @@ value-answer-spec =
     returns-2
     same-type-requires
     returns-3
+    validate-value-enum-requires
     returns-4
-    find-class-requires
-    enum-told
-    enum-told-2
-    returns-5
-    returns-6)
+    returns-5)
