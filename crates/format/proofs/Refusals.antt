@@ -19,11 +19,12 @@ pub data Late {A : Type 0} : Outcome A → Type 0 where
 pub late-question : {A : Type 0} {q p : ℕ} → Late {A = A} (refused q p) → 3 ≤ q
 late-question (refused-so h) = h
 
-late-ask : {A : Type 0} (b : Bool) (q p : ℕ) {o : Outcome A} → 3 ≤ q → Late o → Late (ask b q p o)
+-- after a question, and after another reading
+pub late-ask : {A : Type 0} (b : Bool) (q p : ℕ) {o : Outcome A} → 3 ≤ q → Late o → Late (ask b q p o)
 late-ask true q p h l = l
 late-ask false q p h l = refused-so h
 
-late-bind : {A B : Type 0} {o : Outcome A} {k : A → ℕ → Outcome B} → Late o → ((a : A) (m : ℕ) → Late (k a m)) → Late (bind o k)
+pub late-bind : {A B : Type 0} {o : Outcome A} {k : A → ℕ → Outcome B} → Late o → ((a : A) (m : ℕ) → Late (k a m)) → Late (bind o k)
 late-bind (read-so {v = a} {n = m}) h = h a m
 late-bind (refused-so l) h = refused-so l
 

@@ -14,9 +14,11 @@ use Rattle.state_wire.specs.Fields.{maxSnapshotBytes}
 use Rattle.format.specs.Format.{El, read, encode}
 use Rattle.format.specs.Admits.{Holds}
 use Rattle.format.specs.Manifest.{manifest}
+use Rattle.format.specs.Places.{past}
 use Rattle.format.specs.Reading.{indexWords, readSections, readManifest}
+use Rattle.format.specs.Values.{valueAt}
 use Rattle.format.proofs.Canonical.{canonical}
-use Rattle.format.proofs.Values.{self}
+use Rattle.format.proofs.Values.{self, value-got}
 use Rattle.questions.specs.Sets.{first}
 use Rattle.questions.specs.Declarations.{declarations}
 use Rattle.questions.specs.References.{references, boundaries}
@@ -60,6 +62,11 @@ pub yields-judged : {P : El manifest → ℕ → Type 0} (q : ℕ) (m : El manif
 yields-judged zero m n h = this (h refl)
 yields-judged (suc q) m n h = nothing
 
+-- what is answered Accepted was read
+pub decoded-got : (base : ℕ) (s : List ℕ) (o : Outcome (El manifest)) → decodedOf base s o .answer ≡ Accepted → (m : El manifest) × (n : ℕ) × (o ≡ got m n)
+decoded-got base s (got m n) h = (m, n, refl)
+decoded-got base s (refused q p) h = let z : _≡_ {A = ℕ} 0 1 = cc in absurd (omega arith)
+
 module _ (bound : List (List ℕ)) (revision : ℕ) where
   module _ (s : List ℕ) (w : ℕ) where
     -- and no question over the whole says no
@@ -72,6 +79,11 @@ module _ (bound : List (List ℕ)) (revision : ℕ) where
     unfolding judge
     judge-tells e = yielded (subst (Yields Judged) e
         (yields-bind (yields-passed s w) λ m n p. yields-judged (firstFailing bound revision m) m n λ i. record { passed = p; none = i }))
+
+    -- it is the manifest that the bytes spell, to their end
+    pub judge-spells : {m : El manifest} {n : ℕ} → judge bound revision s w ≡ got m n → (past manifest s 0 ≡ length s) × (valueAt manifest s 0 ≡ m)
+    judge-spells e =
+        yielded (subst (Yields (λ v k. (past manifest s 0 ≡ k) × (valueAt manifest s 0 ≡ v))) (judge-tells e .passed .reads) (value-got maxSnapshotBytes s manifest 0))
 
   -- none says no among those over the declarations
   pub declarations-say-yes : (m : El manifest) → firstFailing bound revision m ≡ 0 → first (declarations m) ≡ 0
@@ -94,8 +106,4 @@ module _ (bound : List (List ℕ)) (revision : ℕ) where
   pub accepted-got : (s : List ℕ) (base : ℕ) (index : List ℕ) → decodeManifest bound s base revision index .answer ≡ Accepted
       → (m : El manifest) × (n : ℕ) × (judge bound revision s (length index) ≡ got m n)
   unfolding decodeManifest
-  accepted-got s base index e = go (judge bound revision s (length index)) e
-    where
-      go : (o : Outcome (El manifest)) → decodedOf base s o .answer ≡ Accepted → (m : El manifest) × (n : ℕ) × (o ≡ got m n)
-      go (got m n) h = (m, n, refl)
-      go (refused q p) h = let z : _≡_ {A = ℕ} 0 1 = cc in absurd (omega arith)
+  accepted-got s base index e = decoded-got base s (judge bound revision s (length index)) e

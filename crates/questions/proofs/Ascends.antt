@@ -2,7 +2,7 @@
 use Prim.Native.Nat.{ℕ, suc, _<_}
 use native.Mathlib.Omega.{arith}
 use mathlib.Core.Path.{_≡_, refl, sym, _∙_, subst}
-use mathlib.Core.Bool.{Bool, true, false, cond, _||_, true≢false}
+use mathlib.Core.Bool.{Bool, true, false, cond, true≢false}
 use mathlib.Core.List.{List, [], _∷_, map}
 use lib.ListN.{length, getD}
 use Rattle.text.proofs.Blocks.{both}
@@ -12,7 +12,7 @@ use Rattle.format.specs.Pairwise.{Ascending}
 use Rattle.format.proofs.Lists.{same-true, same-apart, same-differs}
 use Rattle.format.proofs.Pairwise.{before-trans, before-apart}
 use Rattle.questions.specs.Sets.{all, keep, allIn, sameSet}
-use Rattle.questions.proofs.Sets.{all-weaker, in-front, in-rest}
+use Rattle.questions.proofs.Sets.{all-weaker, in-cases, in-front, in-rest}
 use Rattle.questions.proofs.Kept.{all-so, all-each, all-of-map, all-to-map, keep-all}
 
 -- ---- each key comes before all that follow it
@@ -34,14 +34,10 @@ ascends (k ∷ ks) a = (each ks (λ j h. a 0 (suc j) (omega arith) (omega arith)
 
 -- ---- membership
 -- what is in a list has what each of it has
-in-all : (P : List ℕ → Type 0) (k : List ℕ) (ks : List (List ℕ)) → isIn k ks ≡ true → All P ks → P k
+pub in-all : (P : List ℕ → Type 0) (k : List ℕ) (ks : List (List ℕ)) → isIn k ks ≡ true → All P ks → P k
 unfolding isIn
 in-all P k [] e a = absurd (true≢false (sym e))
-in-all P k (l ∷ ls) e a = go (same k l) refl e (λ e′. in-all P k ls e′ (a .1))
-  where
-    go : (b : Bool) → same k l ≡ b → (b || isIn k ls) ≡ true → (isIn k ls ≡ true → P k) → P k
-    go true h e ih = subst P (sym (same-true k l h)) (a .0)
-    go false h e ih = ih e
+in-all P k (l ∷ ls) e a = in-cases k l ls (λ i. subst P (sym i) (a .0)) (λ i. in-all P k ls i (a .1)) e
 
 -- a key that is not the first is in the rest
 in-cons : (k l : List ℕ) (ls : List (List ℕ)) → (k ≡ l → ⊥) → isIn k (l ∷ ls) ≡ isIn k ls
@@ -61,7 +57,7 @@ all-in-self [] = refl
 all-in-self (k ∷ ks) = rw (in-front k ks, all-in-later ks k ks (all-in-self ks))
 
 -- a key that comes before all of these is none of them
-all-in-rest : (k : List ℕ) (ks ls : List (List ℕ)) → Ahead k ks → allIn ks (k ∷ ls) ≡ true → allIn ks ls ≡ true
+pub all-in-rest : (k : List ℕ) (ks ls : List (List ℕ)) → Ahead k ks → allIn ks (k ∷ ls) ≡ true → allIn ks ls ≡ true
 unfolding allIn all
 all-in-rest k [] ls a h = refl
 all-in-rest k (x ∷ ks) ls a h =
@@ -95,7 +91,7 @@ same-if (x ∷ xs) (y ∷ ys) p q i j =
     rw (e, r)
 
 -- what is among those that are among others is among these
-all-in-others : (xs ys zs : List (List ℕ)) → allIn xs ys ≡ true → allIn ys zs ≡ true → allIn xs zs ≡ true
+pub all-in-others : (xs ys zs : List (List ℕ)) → allIn xs ys ≡ true → allIn ys zs ≡ true → allIn xs zs ≡ true
 unfolding allIn
 all-in-others xs ys zs p q = all-weaker _ _ (λ k i. in-all (λ l. isIn l zs ≡ true) k ys i (all-each _ ys q)) xs p
 

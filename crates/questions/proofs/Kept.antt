@@ -16,11 +16,16 @@ module _ {A : Type 0} where
   pub all-so : {P Q : A → Type 0} → ((x : A) → P x → Q x) → (xs : List A) → All P xs → All Q xs
   all-so f xs p = all-two (λ x a b. f x a) xs p p
 
-  -- a test that all pass, each does
+  -- a test that all pass, each does, and back
   pub all-each : (t : A → Bool) (xs : List A) → all t xs ≡ true → All (λ x. t x ≡ true) xs
   unfolding all
   all-each t [] h = tt
   all-each t (x ∷ xs) h = let b = both (t x) (all t xs) h in (b .0, all-each t xs (b .1))
+
+  pub each-all : (t : A → Bool) (xs : List A) → All (λ x. t x ≡ true) xs → all t xs ≡ true
+  unfolding all
+  each-all t [] h = refl
+  each-all t (x ∷ xs) h = rw (h .0, each-all t xs (h .1))
 
   -- of each of a mapped list, and back
   pub all-of-map : {B : Type 0} (f : B → A) (P : A → Type 0) (xs : List B) → All P (map f xs) → All (λ x. P (f x)) xs

@@ -46,18 +46,19 @@ pub data Of (p : ℕ × ℕ) : ℕ → Type 0 where
 
 -- ---- the answers are of their places
 module _ (p : ℕ × ℕ) where
-  unless-of : (q : ℕ) (b : Bool) → (leb (p .0) q && leb q (p .1)) ≡ true → Of p (q unless b)
+  -- one question, a group of them, one of each
+  pub unless-of : (q : ℕ) (b : Bool) → (leb (p .0) q && leb q (p .1)) ≡ true → Of p (q unless b)
   unfolding _unless_
   unless-of q true e = yes
   unless-of q false e = let a = both (leb (p .0) q) _ e in no (leb-true _ _ (a .0)) (leb-true _ _ (a .1))
 
-  first-of : (qs : List ℕ) → All (Of p) qs → Of p (first qs)
+  pub first-of : (qs : List ℕ) → All (Of p) qs → Of p (first qs)
   unfolding first
   first-of [] a = yes
   first-of (zero ∷ qs) a = first-of qs (a .1)
   first-of (suc q ∷ qs) a = a .0
 
-  all-of : {A : Type 0} (f : A → ℕ) → ((x : A) → Of p (f x)) → (xs : List A) → All (Of p) (map f xs)
+  pub all-of : {A : Type 0} (f : A → ℕ) → ((x : A) → Of p (f x)) → (xs : List A) → All (Of p) (map f xs)
   all-of f h [] = tt
   all-of f h (x ∷ xs) = (h x, all-of f h xs)
 
@@ -84,9 +85,10 @@ abbrev inARow : ℕ → List (ℕ × ℕ) → Bool
 inARow n [] = true
 inARow n (p ∷ ps) = leb n (p .0) && (leb (p .0) (p .1) && inARow (p .1) ps)
 
-of-inside : {p : ℕ × ℕ} {q : ℕ} → Of p q → (q ≡ 0 → ⊥) → q ≤ p .1
+-- one that is not 0 is one of the place's numbers
+pub of-inside : {p : ℕ × ℕ} {q : ℕ} → Of p q → (q ≡ 0 → ⊥) → (p .0 ≤ q) × (q ≤ p .1)
 of-inside yes h = absurd (h refl)
-of-inside (no l k) h = k
+of-inside (no l k) h = (l, k)
 
 in-a-row : (n : ℕ) (p : ℕ × ℕ) (ps : List (ℕ × ℕ)) → inARow n (p ∷ ps) ≡ true → (n ≤ p .0) × (p .0 ≤ p .1) × (inARow (p .1) ps ≡ true)
 in-a-row n p ps e =
@@ -108,7 +110,7 @@ unfolding first
 below-first n r none = none
 below-first n r (_also_ {p = p} {q = zero} {ps = ps} o os) = (λ h. refl) also below-first (p .1) (in-a-row n p ps r .2) os
 below-first n r (_also_ {p = p} {q = suc q} {ps = ps} o os) =
-    let i : suc q ≤ p .1 = of-inside o (λ e. absurd (omega arith)) in
+    let i : suc q ≤ p .1 = of-inside o (λ e. absurd (omega arith)) .1 in
     let here : p .1 < suc q → suc q ≡ 0 = λ h. absurd (omega arith) in
     here also none-below (suc q) (p .1) i (in-a-row n p ps r .2) os
 

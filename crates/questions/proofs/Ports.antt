@@ -2,7 +2,7 @@
 use Prim.Native.Nat.{ℕ, suc, _≤_}
 use native.Mathlib.Omega.{arith}
 use mathlib.Core.Path.{_≡_, refl, sym, ap, _∙_, subst}
-use mathlib.Core.Bool.{Bool, true, false, not, _||_, true≢false, false≢true}
+use mathlib.Core.Bool.{Bool, true, false, not, true≢false, false≢true}
 use mathlib.Core.List.{List, [], _∷_, _++_}
 use lib.Dec.{eqb}
 use borrow.Author.Tests.{eqb-true, not-true}
@@ -19,7 +19,7 @@ use Rattle.format.proofs.Lists.{same-true, in-append}
 use Rattle.format.proofs.Complete.{told}
 use Rattle.questions.specs.Sets.{gather}
 use Rattle.questions.specs.Declarations.{blockNames, portHolds, portsHold, portNames, blockPorts}
-use Rattle.questions.proofs.Sets.{in-front, in-rest}
+use Rattle.questions.proofs.Sets.{or-cases, in-cases, in-front, in-rest}
 
 -- ---- what a port is by its name
 key-honest : honest connectorKey ≡ true
@@ -61,18 +61,9 @@ not-in k ks h = go (isIn k ks) refl
     go true e = absurd (h e)
     go false e = refl
 
--- a name in a list is the first or in the rest; in one list or the other
-module _ {P : Type 0} (k : List ℕ) where
-  or-cases : (b c : Bool) → (b ≡ true → P) → (c ≡ true → P) → (b || c) ≡ true → P
-  or-cases true c f g e = f refl
-  or-cases false c f g e = g e
-
-  in-cons : (l : List ℕ) (ks : List (List ℕ)) → (k ≡ l → P) → (isIn k ks ≡ true → P) → isIn k (l ∷ ks) ≡ true → P
-  unfolding isIn
-  in-cons l ks f g e = or-cases (same k l) (isIn k ks) (λ h. f (same-true k l h)) g e
-
-  in-either : (xs ys : List (List ℕ)) → (isIn k xs ≡ true → P) → (isIn k ys ≡ true → P) → isIn k (xs ++ ys) ≡ true → P
-  in-either xs ys f g e = or-cases (isIn k xs) (isIn k ys) f g (sym (in-append k xs ys) ∙ e)
+-- a name in two lists is in one or the other
+in-either : {P : Type 0} (k : List ℕ) (xs ys : List (List ℕ)) → (isIn k xs ≡ true → P) → (isIn k ys ≡ true → P) → isIn k (xs ++ ys) ≡ true → P
+in-either k xs ys f g e = or-cases (isIn k xs) (isIn k ys) f g (sym (in-append k xs ys) ∙ e)
 
 different-cons : (k : List ℕ) (ks : List (List ℕ)) → (isIn k ks ≡ true → ⊥) → allDifferent ks ≡ true → allDifferent (k ∷ ks) ≡ true
 unfolding allDifferent
@@ -120,7 +111,7 @@ module _ (k : El blockKey) (way : ℕ) where
   ports-named i (p ∷ ps) a e n h =
       let b = both (portHolds k way i (p .0)) (portsHold k way (suc i) ps) e in
       let s = port-so k way i (p .0) (b .0) in
-      in-cons n (encode connectorKey (p .0)) (portNames ps)
+      in-cases n (encode connectorKey (p .0)) (portNames ps)
       (λ w. record { port = p .0; admitted = a .0 .0; written = sym w; so = (s .0, s .1, omega (arith, s .2)) })
       (λ m. names-so (λ q t. (t .0, t .1, omega (arith, t .2))) (ports-named (suc i) ps (a .1) (b .1) n m))
       h

@@ -1,18 +1,27 @@
 -- Laws of tests and of the tests of lists.
 use Prim.Native.Nat.{ℕ}
 use mathlib.Core.Path.{_≡_, refl, sym}
-use mathlib.Core.Bool.{Bool, true, false, _&&_, _||_, and-false}
+use mathlib.Core.Bool.{Bool, true, false, _&&_, _||_, and-false, or-true}
 use mathlib.Core.List.{List, [], _∷_, map}
 use Rattle.text.proofs.Blocks.{both}
 use Rattle.format.specs.Lists.{same, isIn}
-use Rattle.format.proofs.Lists.{same-refl}
-use Rattle.questions.specs.Sets.{all}
+use Rattle.format.proofs.Lists.{same-refl, same-true}
+use Rattle.questions.specs.Sets.{all, any}
 
 -- each says yes where the other does
 pub both-ways : (p q : Bool) → (p ≡ true → q ≡ true) → (q ≡ true → p ≡ true) → p ≡ q
 both-ways true q f g = sym (f refl)
 both-ways false true f g = g refl
 both-ways false false f g = refl
+
+-- one of two says yes; one of two says no
+pub or-cases : {P : Type 0} (b c : Bool) → (b ≡ true → P) → (c ≡ true → P) → (b || c) ≡ true → P
+or-cases true c f g e = f refl
+or-cases false c f g e = g e
+
+pub and-cases : {P : Type 0} (b c : Bool) → (b ≡ false → P) → (c ≡ false → P) → (b && c) ≡ false → P
+and-cases true c f g e = g e
+and-cases false c f g e = f refl
 
 module _ {A : Type 0} where
   pub all-both : (t u : A → Bool) (l : List A) → all (λ x. t x && u x) l ≡ (all t l && all u l)
@@ -36,7 +45,18 @@ module _ {A : Type 0} where
   all-weaker t u h [] e = refl
   all-weaker t u h (x ∷ xs) e = let b = both (t x) (all t xs) e in rw (h x (b .0), all-weaker t u h xs (b .1))
 
+  -- one that passes a test passes a weaker one
+  pub any-weaker : (t u : A → Bool) → ((x : A) → t x ≡ true → u x ≡ true) → (xs : List A) → any t xs ≡ true → any u xs ≡ true
+  unfolding any
+  any-weaker t u h [] e = e
+  any-weaker t u h (x ∷ xs) e = or-cases (t x) (any t xs) (λ i. rw (h x i)) (λ i. rw (any-weaker t u h xs i, or-true)) e
+
 -- ---- membership
+-- what is in a list is its first or in the rest
+pub in-cases : {P : Type 0} (k l : List ℕ) (ls : List (List ℕ)) → (k ≡ l → P) → (isIn k ls ≡ true → P) → isIn k (l ∷ ls) ≡ true → P
+unfolding isIn
+in-cases k l ls f g e = or-cases (same k l) (isIn k ls) (λ i. f (same-true k l i)) g e
+
 -- a list has its first, and what is in the rest of it
 pub in-front : (k : List ℕ) (ks : List (List ℕ)) → isIn k (k ∷ ks) ≡ true
 unfolding isIn

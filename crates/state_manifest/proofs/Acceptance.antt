@@ -1,7 +1,7 @@
 -- What the answer of `decode_manifest` tells, and what it leaves.
 use Prim.Native.Nat.{ℕ, _+_, _-_}
 use native.Mathlib.Omega.{arith}
-use mathlib.Core.Path.{_≡_, sym, ap, _∙_, subst}
+use mathlib.Core.Path.{_≡_, sym, ap, _∙_}
 use mathlib.Core.List.{List, _++_}
 use lib.ListN.{length, replicate, length-append, length-replicate}
 use lib.Seq.{take-at}
@@ -11,18 +11,16 @@ use Rattle.state.specs.declared.Answer.the-variants as answer
 use Rattle.state.specs.declared.Decoded.{Decoded}
 use Rattle.state.specs.declared.Units.{Units}
 use Rattle.state.specs.declared.Units.the-variants as units
-use Rattle.state.proofs.Outcome.{Yields, yielded}
 use Rattle.format.specs.Format.{El}
 use Rattle.format.specs.Manifest.{manifest}
 use Rattle.format.specs.Places.{manifestStarts, past}
-use Rattle.format.specs.Values.{valueAt}
-use Rattle.format.proofs.Values.{value-got, well}
+use Rattle.format.proofs.Values.{well}
 use Rattle.questions.specs.Portability.{targetBoundClasses}
 use Rattle.questions.specs.Answers.{judge, offsetAt, decodedOf, decodeManifest, decodedIndex}
 use Rattle.questions.specs.Units.{unitsAnswer, unitsIndex}
 use Rattle.verdict.specs.Demand3.{WordsDemand}
 use Rattle.verdict.proofs.Demand3.{words-are-held, words-given}
-use Rattle.questions.proofs.Accepted.{Judged, judge-tells, slots-say-yes, accepted-got}
+use Rattle.questions.proofs.Accepted.{Judged, judge-tells, judge-spells, slots-say-yes, accepted-got}
 use Rattle.state_layout.specs.Tables.{manifestOf}
 use Rattle.state_layout.proofs.Tables.{limit}
 use Rattle.state_manifest.specs.Accepted.{Accepted}
@@ -64,7 +62,7 @@ module _ (s old : List ℕ) (base revision : ℕ) {d : Decoded} (is : d ≡ deco
 
     -- it is the manifest that the bytes spell, to their end
     spelled : (past manifest s 0 ≡ length s) × (manifestOf s ≡ accepted .0)
-    spelled = yielded (subst (Yields (λ v k. (past manifest s 0 ≡ k) × (valueAt manifest s 0 ≡ v))) (judged .passed .reads) (value-got limit s manifest 0))
+    spelled = judge-spells targetBoundClasses revision s (length old) (accepted .2)
 
     pub judged-as : (n : ℕ) × (judgment s old revision ≡ got (manifestOf s) n)
     judged-as = (accepted .1, rw (spelled .1) (accepted .2))

@@ -14,8 +14,8 @@ use Rattle.state.specs.declared.Verdict.the-variants.{Differs}
 use Rattle.state_wire.specs.Fields.{maxSnapshotBytes}
 use Rattle.format.specs.Format.{El, text, number, tag, encode}
 use Rattle.format.specs.Keys.{blockKey, connectorKey, owner, direction, portIndex}
-use Rattle.format.specs.Manifest.{value, params, connectorKeys, connectorRest, Section, entry, blocks, connectors, inputDefinitions, manifest}
-use Rattle.format.specs.Fields.{Entry, blocksOf, connectorsOf, externalInputsOf, inputDefinitionsOf, blockKeyOf, paramsOf, inputs, outputs, connectorKeyOf, path}
+use Rattle.format.specs.Manifest.{value, params, connectorKeys, Section, entry, blocks, connectors, inputDefinitions, manifest}
+use Rattle.format.specs.Fields.{Entry, blocksOf, connectorsOf, externalInputsOf, inputDefinitionsOf, blockKeyOf, paramsOf, inputs, outputs, path}
 use Rattle.format.specs.Admits.{Holds}
 use Rattle.questions.specs.Sets.{gather, sameSet, countDifferent, first}
 use Rattle.questions.specs.Declarations.{connectorNames, portHolds, portsHold, blockPorts, portsAre, declarations}
@@ -24,12 +24,12 @@ use Rattle.questions.specs.Order.{firstFailing}
 use Rattle.questions.specs.Answers.{judge}
 use Rattle.questions.proofs.Chains.{first-none, unless-none}
 use Rattle.questions.proofs.Accepted.{passed-canonical, judge-tells, declarations-say-yes, inputs-say-yes}
-use Rattle.questions.proofs.Ascends.{Ascends, same-sets}
+use Rattle.questions.proofs.Ascends.{same-sets}
 use Rattle.questions.proofs.Ports.{port-so, Passes}
 use Rattle.questions.proofs.Impossible.{blocks-pass}
 use Rattle.verdict.specs.Verdict.{headVerdict, paramVerdict, paramsVerdict, portsVerdict, blockVerdict, entrywise, verdict}
 use Rattle.verdict.proofs.Faithful.{or-both, field-finds}
-use Rattle.verdict.proofs.Words.{keys-ascend}
+use Rattle.verdict.proofs.Words.{connectors-ascend}
 use Rattle.verdict.proofs.Reached.{reached, InPart, of, part-of, field-part, or-part, From, from-any, from-all, along-part}
 
 -- ---- blocks
@@ -113,11 +113,6 @@ module _ {m : El manifest} (a : AllYes m) where
   declared : first (declarations m) ≡ 0
   declared = declarations-say-yes (a .bound) (a .revision) m (a .none)
 
-  -- 9: the connectors' names ascend
-  connectors-ascend : Ascends (connectorNames (connectorsOf m))
-  unfolding Holds manifest connectorsOf connectorNames connectorKeyOf
-  connectors-ascend = keys-ascend 19 connectorKey connectorRest (connectorsOf m) (a .holds .1 .1 .1 .0)
-
   -- 14: the blocks' ports are as it asks, each at its place
   blocks-each : From (λ _. Passes) 0 (blocksOf m)
   blocks-each = from-all Passes 0 (blocksOf m) (blocks-pass m (a .holds) declared)
@@ -149,7 +144,7 @@ module _ {m m′ : El manifest} (a : AllYes m) (a′ : AllYes m′) where
       let r = reached 3 m m′ (a .holds) (a′ .holds) d in
       let b : blocksOf m ≡ blocksOf m′ = r .1 .1 .0 in
       let n : connectorNames (connectorsOf m) ≡ connectorNames (connectorsOf m′) =
-      same-sets _ _ (gather blockPorts (blocksOf m)) (connectors-ascend a) (connectors-ascend a′) (ports-are a) (rw b (ports-are a′)) in
+      same-sets _ _ (gather blockPorts (blocksOf m)) (connectors-ascend m (a .holds)) (connectors-ascend m′ (a′ .holds)) (ports-are a) (rw b (ports-are a′)) in
       part-of (subst (InPart (λ p. p ≡ 0)) (r .1 .1 .1) (entries-part 4 connectors (connectorsOf m) (connectorsOf m′) (simp length-map at (ap length n))))
 
   -- nor are input definitions

@@ -10,13 +10,13 @@ use borrow.Author.Tests.{eqb-true}
 use Rattle.text.proofs.Blocks.{both}
 use Rattle.state_wire.specs.Fields.{maxSnapshotBytes}
 use Rattle.format.specs.Format.{Fmt, El, late, wire, list, _then_, encode}
-use Rattle.format.specs.Keys.{blockKey}
-use Rattle.format.specs.Manifest.{blockRest, slotRest, blocks, stateSlots, manifest}
-use Rattle.format.specs.Fields.{Entry, blocksOf, slotsOf, blockKeyOf, stateLen, slotKey, slotLength}
+use Rattle.format.specs.Keys.{blockKey, connectorKey}
+use Rattle.format.specs.Manifest.{blockRest, connectorRest, slotRest, blocks, stateSlots, manifest}
+use Rattle.format.specs.Fields.{Entry, blocksOf, connectorsOf, slotsOf, blockKeyOf, connectorKeyOf, stateLen, slotKey, slotLength}
 use Rattle.format.specs.Admits.{All, Holds}
 use Rattle.format.proofs.Pairwise.{ascending-iff}
 use Rattle.questions.specs.Sets.{keep, allIn, sameSet, sum, first}
-use Rattle.questions.specs.Declarations.{blockNames, isStateful}
+use Rattle.questions.specs.Declarations.{blockNames, connectorNames, isStateful}
 use Rattle.questions.specs.Slots.{slotName, slotKeysAre, lengthIs, slotAnswer, words, byOffset, joinFrom, slots}
 use Rattle.questions.specs.Units.{wordTotal}
 use Rattle.questions.proofs.Chains.{first-one, first-none, unless-none, each-none}
@@ -49,6 +49,11 @@ unfolding Holds
 keys-ascend least key rest es h =
     let ks : List (List ℕ) = map (λ e. encode key (e .0)) es in
     ascends ks (ascending-iff (late wire) tt ks .0 (h .2))
+
+-- so do the connectors' names
+pub connectors-ascend : (m : El manifest) → Holds maxSnapshotBytes manifest m → Ascends (connectorNames (connectorsOf m))
+unfolding Holds manifest connectorsOf connectorNames connectorKeyOf
+connectors-ascend m h = keys-ascend 19 connectorKey connectorRest (connectorsOf m) (h .1 .1 .1 .0)
 
 -- slots with the names of these blocks, each alone of its name, that pass question 22
 same-lengths : (bs ks : List (Entry blocks)) (es : List (Entry stateSlots)) → All (Alone blockName bs) ks → map slotName es ≡ map blockName ks
