@@ -1,7 +1,7 @@
 -- Names for the parts of a manifest's value, the Rust's: sections, entries, fields.
 use Prim.Native.Nat.{ℕ, zero, suc}
 use mathlib.Core.List.{List, [], _∷_}
-use Rattle.format.specs.Format.{Fmt, El, text, _then_}
+use Rattle.format.specs.Format.{Fmt, El, text}
 use Rattle.format.specs.Keys.{blockKey, connectorKey}
 use Rattle.format.specs.Manifest.{valueType, value, optional, members, params, connectorKeys, blockHead, blockRest, connectorRest, slotRest, inputRest, portability, Section, entry, enums, blocks, connectors, connections, schedule, connectorOrder, driverOf, stateSlots, externalInputs, boundaryOutputs, inputDefinitions, manifest}
 

@@ -5,7 +5,6 @@ use mathlib.Core.Bool.{cond}
 use lib.ListN.{length, replicate}
 use lib.Dec.{leb, eqb}
 use Rattle.state.specs.Outcome.{Outcome, got, refused, bind, offsetOf}
-use Rattle.state.specs.declared.Answer.{Answer}
 use Rattle.state.specs.declared.Answer.the-variants as answer
 use Rattle.state.specs.declared.Starts.{Starts}
 use Rattle.state.specs.declared.Decoded.{Decoded}

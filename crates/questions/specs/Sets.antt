@@ -5,6 +5,7 @@ use mathlib.Core.Bool.{Bool, true, false, cond, _&&_, _||_}
 use Rattle.format.specs.Lists.{isIn, allDifferent}
 
 module _ {A : Type 0} where
+  -- each passes a test; one passes it
   unfoldable pub all : (A → Bool) → List A → Bool
   all t [] = true
   all t (x ∷ xs) = t x && all t xs
@@ -40,6 +41,7 @@ unfoldable pub countDifferent : List (List ℕ) → ℕ
 countDifferent [] = 0
 countDifferent (k ∷ ks) = cond (isIn k ks) 0 1 + countDifferent ks
 
+-- the sum of all, 0 of none
 unfoldable pub sum : List ℕ → ℕ
 sum [] = 0
 sum (n ∷ ns) = n + sum ns

@@ -10,7 +10,7 @@ use Rattle.state.specs.declared.Units.the-variants as units
 use Rattle.format.specs.Format.{El}
 use Rattle.format.specs.Manifest.{stateSlots, manifest}
 use Rattle.format.specs.Fields.{Entry, connectorsOf, slotsOf, slotOffset, slotLength}
-use Rattle.questions.specs.Answers.{judge, offsetAt, indexAfter}
+use Rattle.questions.specs.Answers.{offsetAt, indexAfter}
 
 -- "The word total is the largest slot end, 0 without slots"
 unfoldable pub wordTotal : List (Entry stateSlots) → ℕ

@@ -1,21 +1,20 @@
 -- Questions 33 to 36: value by value, and of the manifest's tables.
-use Prim.Native.Nat.{ℕ, zero, suc, _+_, _-_, _≤_, _<_, min}
+use Prim.Native.Nat.{ℕ, suc, _+_, _-_, _≤_, _<_, min}
 use native.Mathlib.Omega.{arith}
 use native.Mathlib.Nat.{min-eq-left}
-use mathlib.Core.Path.{_≡_, refl, sym, ap, _∙_, subst}
-use mathlib.Core.List.{List, [], _∷_, map}
+use mathlib.Core.Path.{_≡_, sym, ap, _∙_, subst}
+use mathlib.Core.List.{List, _∷_, map}
 use lib.ListN.{length}
 use borrow.Author.Tests.{eq-eqb, ne-eqb}
-use Rattle.state.specs.Bytes.{span}
 use Rattle.state_wire.specs.Fields.{maxSnapshotBytes}
 use Rattle.format.specs.Format.{late, wire}
 use Rattle.format.specs.Keys.{connectorKey}
-use Rattle.format.specs.Manifest.{value, enums, connectors, entry, counted}
+use Rattle.format.specs.Manifest.{value, entry, counted}
 use Rattle.format.specs.Fields.{Entry, enumsOf, connectorsOf}
 use Rattle.format.specs.Places.{numberAt, past}
 use Rattle.format.specs.Values.{valuesAt, valueAt, Well, WellEach}
 use Rattle.format.proofs.Values.{values-length, well-list}
-use Rattle.questions.specs.Sets.{_unless_, first}
+use Rattle.questions.specs.Sets.{first}
 use Rattle.questions.specs.Declarations.{connectorNames}
 use Rattle.questions.proofs.Chains.{says-yes, says-no, first-one, none-says-no, one-says-no}
 use Rattle.tail.specs.Tail.{values, valueAnswer, valuesAnswer}
@@ -37,6 +36,7 @@ pub record Asking (answer : Entry values → ℕ) (t : List ℕ) (from to w p : 
   pub since : from ≤ w
 
 module _ (answer : Entry values → ℕ) (t : List ℕ) {from to : ℕ} where
+  -- before the first value
   pub asking-start : Well maxSnapshotBytes (counted values) t 0 → numberAt 4 t 0 ≡ to - from → {p : ℕ} → p ≡ min (0 + 4) (length t) → Asking answer t from to from p
   unfolding valueAt
   asking-start h n {p} e =
@@ -48,6 +48,7 @@ module _ (answer : Entry values → ℕ) (t : List ℕ) {from to : ℕ} where
       }
 
   module _ {w p : ℕ} (a : Asking answer t from to w p) where
+    -- behind the last, none said no
     pub asking-end : to ≤ w → 0 ≡ first (map answer (valueAt (counted values) t 0))
     unfolding first
     asking-end h = let z : to - w ≡ 0 = omega arith in sym (a .is ∙ rw z)
@@ -68,9 +69,11 @@ module _ (answer : Entry values → ℕ) (t : List ℕ) {from to : ℕ} where
         unfolding valueAt
         turned = a .is ∙ rw (next, e)
 
+        -- a value that says no is the answer
         pub asking-no : (q ≡ 0 → ⊥) → q ≡ first (map answer (valueAt (counted values) t 0))
         asking-no n = one-says-no _ q n ∙ sym turned
 
+        -- one that says yes leaves the rest
         pub asking-next : q ≡ 0 → {k p′ : ℕ} → k ≡ past connectorKey t p → p′ ≡ past value t k → Asking answer t from to (w + 1) p′
         unfolding past
         asking-next z i j = record {
@@ -101,6 +104,7 @@ module _ {s index : List ℕ} (a : Asked s index) {classes end from to : ℕ} (e
   pub connectors-count : to - from ≡ length (connectorsOf (manifestOf s))
   connectors-count = omega (arith, rows (manifestOf s), e4, e5)
 
+  -- the table of connectors ends behind its start
   pub forward : from ≤ to
   forward = omega (arith, rows (manifestOf s), e4, e5)
 

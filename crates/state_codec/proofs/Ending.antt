@@ -1,7 +1,7 @@
 -- The answer of a call on a manifest and its tail, and the index at its end.
 use Prim.Native.Nat.{ℕ, _+_, _-_, _≤_}
 use native.Mathlib.Omega.{arith}
-use mathlib.Core.Path.{_≡_, sym, ap, _∙_}
+use mathlib.Core.Path.{_≡_, sym, _∙_}
 use mathlib.Core.Bool.{Bool, true, false, not, cond}
 use mathlib.Core.List.{List, _++_}
 use lib.ListN.{length, take, replicate}
@@ -15,7 +15,7 @@ use Rattle.state.proofs.Outcome.{step-refused, step-yields, always}
 use Rattle.state_wire.specs.Fields.{maxSnapshotBytes}
 use Rattle.format.specs.Places.{manifestStarts}
 use Rattle.questions.specs.Portability.{targetBoundClasses}
-use Rattle.questions.specs.Answers.{judge, offsetAt, refusal, acceptance}
+use Rattle.questions.specs.Answers.{judge, refusal, acceptance}
 use Rattle.questions.proofs.Accepted.{judge-tells, judge-spells, slots-say-yes}
 use Rattle.tail.specs.Tail.{readTail}
 use Rattle.tail.specs.Answers.{judgeSnapshot, decodeSnapshot, snapshotIndex}
@@ -42,12 +42,14 @@ module _ {s old mid : List ℕ} {revision : ℕ} {r : Step} (j : Judges s revisi
       let y = step-yields (always (judge targetBoundClasses revision s (length old))) (j .is) e in
       rw (judge-spells targetBoundClasses revision s (length old) (y .1) .1, ← judge-tells targetBoundClasses revision s (length old) (y .1) .passed .whole) (y .1)
 
+  -- with its tables, and slots that end below 2^64
   pub asked : Asked s mid
   asked = record {
     tabled = j .tabled n e;
     fits = ends-fit (manifestOf s) (slots-say-yes targetBoundClasses revision (manifestOf s) (judge-tells targetBoundClasses revision s (length old) judged .none));
   }
 
+  -- its starts are the first words
   pub starts-there : 12 ≤ length mid
   starts-there = tabled-starts (j .tabled n e) .0
 
@@ -83,6 +85,7 @@ module _ (s t old : List ℕ) (base revision : ℕ) where
               let l : eqb q 2 ≡ false = ne-eqb q 2 (λ z. absurd (omega (arith, tail-late (manifestOf s) t u))) in
               (i ∙ rw (io, short, judged j e, u) (refusal-on base (length s) q p), k ∙ rw (short, judged j e, u, l, j .long))
 
+          -- accepted with its tail
           pub ends-accepted : {k : ℕ} → x ≡ step.Next k → {d : Decoded} {new : List ℕ} → d ≡ acceptance (take 12 mid) → new ≡ take 12 mid ++ replicate (length mid - 12) 0 → Ends d new
           unfolding decodeSnapshot snapshotIndex judgeSnapshot
           ends-accepted h i k =

@@ -1,9 +1,9 @@
 -- Questions 34 to 36 of one value, by what a search for its key found.
 use Prim.Native.Nat.{ℕ, _-_, _≤_, _<_}
 use native.Mathlib.Omega.{arith}
-use mathlib.Core.Path.{_≡_, refl, sym, ap, _∙_}
+use mathlib.Core.Path.{_≡_, sym, ap, _∙_}
 use mathlib.Core.Bool.{Bool, true, false, not, _&&_}
-use mathlib.Core.List.{List, [], _∷_, map, map-map}
+use mathlib.Core.List.{List, [], map, map-map}
 use lib.ListN.{length, getD}
 use borrow.Author.Tests.{not-true, not-false}
 use Rattle.state.specs.Bytes.{AreBytes, span}
@@ -17,7 +17,7 @@ use Rattle.format.specs.Fields.{Entry, connectorKeyOf, valueTypeOf}
 use Rattle.format.specs.Places.{past, keyAt}
 use Rattle.format.specs.Values.{valueAt, Well}
 use Rattle.format.proofs.Values.{well-then, key-written}
-use Rattle.questions.specs.Sets.{any, _unless_, first}
+use Rattle.questions.specs.Sets.{_unless_}
 use Rattle.questions.specs.Declarations.{connectorNames, enumHolds}
 use Rattle.questions.specs.References.{isKnown}
 use Rattle.questions.specs.Inputs.{sameType, hasType}
@@ -78,6 +78,7 @@ module _ {s index : List ℕ} {classes end from to : ℕ} (t : List ℕ) (at : �
     known : isKnown (connectorNames cs) (valueKey v) ≡ true
     known = known-is ∙ key-found (l .connected) (found .0) (found .1) (found .2)
 
+    -- it is a word of the index
     pub value-word : w < length index
     value-word = omega (arith, found .1, l .connected)
 
@@ -115,6 +116,7 @@ module _ {s index : List ℕ} {classes end from to : ℕ} (t : List ℕ) (at : �
       unfolding valueOf valueTypeOf connectorRest valueAt
       type-told = type-is ∙ rw (← there, ← typed, ← behind) (has-type t p (valueAt valueType s q)) ∙ sym same-type
 
+      -- 35 says no
       pub value-other : not b ≡ true → 35 ≡ answer
       unfolding valueAnswer
       value-other n = sym (says-yes 34 _ known ∙ sym (says-no 34 _ (type-told ∙ not-true b n)))
@@ -126,10 +128,12 @@ module _ {s index : List ℕ} {classes end from to : ℕ} (t : List ℕ) (at : �
             says-yes 34 _ known ∙ says-yes 35 _ (type-told ∙ not-false b n) ∙ first-one _
             ∙ ap (λ (c : Bool). 36 unless c) (rw (← behind) (sym holds))
 
+        -- 36 says no
         pub value-outside : not d ≡ true → 36 ≡ answer
         unfolding _unless_
         value-outside m = sym (rest-is ∙ rw (not-true d m))
 
+        -- all three say yes
         pub value-right : not d ≡ false → 0 ≡ answer
         unfolding _unless_
         value-right m = sym (rest-is ∙ rw (not-false d m))

@@ -8,7 +8,6 @@ use state::Decoded;
 use state::Field;
 use state::MAX_SNAPSHOT_BYTES;
 use state::Step;
-use state_index::keys::number_at;
 use state_index::word_at;
 use state_manifest::state_words;
 use state_wire::bounded_count;
@@ -25,16 +24,15 @@ ghost use lib.Dec.{leb};
 ghost use Rattle.state.specs.Bytes.{AreBytes};
 ghost use Rattle.state.specs.Outcome.{stepOf};
 ghost use Rattle.state_wire.specs.Fields.{maxSnapshotBytes};
-ghost use Rattle.format.specs.Format.{scan};
 ghost use Rattle.questions.specs.Portability.{targetBoundClasses};
-ghost use Rattle.tail.specs.Tail.{words, readFlags, readTail};
+ghost use Rattle.tail.specs.Tail.{readWords, readFlags, readTail};
 ghost use Rattle.tail.specs.Answers.{decodeSnapshot, snapshotIndex};
 ghost use Rattle.state_layout.specs.Tables.{manifestOf};
 ghost use Rattle.state_codec.specs.Listed.{Asked};
 
-// The word count and the words: these are passed over, since the count was held against what is left.
-fn read_words(t: &[u8], at: usize) -> Step
-    ensures { λ r. ⌜ r ≡ scan maxSnapshotBytes words (now (t .entry)) at ⌝ }
+// The word count and the words, and question 37. The words are passed over: the count was held against what is left.
+fn read_words(t: &[u8], at: usize, total: u64) -> Step
+    ensures { λ r. ⌜ r ≡ stepOf (readWords total (now (t .entry)) at) ⌝ }
 {
     let number = read_u64(t, at);
     let Field::Value(n, next) = number else {
@@ -44,6 +42,9 @@ fn read_words(t: &[u8], at: usize) -> Step
     let Field::Value(words, first) = count else {
         return step_of(count);
     };
+    if words != total {
+        return Step::Refused(37, at);
+    }
     Step::Next(first + 8 * words as usize)
 }
 
@@ -79,13 +80,10 @@ fn read_tail(s: &[u8], index: &[u32], t: &[u8]) -> Step
     if question != 0 {
         return Step::Refused(question, p);
     }
-    let words = read_words(t, p);
+    let words = read_words(t, p, state_words(s, word_at(index, 8)));
     let Step::Next(q) = words else {
         return words;
     };
-    if number_at(t, p) != state_words(s, word_at(index, 8)) {
-        return Step::Refused(37, p);
-    }
     read_flags(t, q)
 }
 

@@ -11,7 +11,7 @@ use Rattle.format.proofs.Lists.{alike-each}
 use Rattle.questions.specs.Portability.{targetBoundClasses}
 use Rattle.questions.proofs.Cases.{zeros, hex}
 use Rattle.questions.proofs.Rows.{opened}
-use Rattle.tail.specs.Tail.{words, flags, valueKey, valueOf, typeIs, valueAnswer, valuesAnswer, readFlags, readTail}
+use Rattle.tail.specs.Tail.{words, flags, valueKey, valueOf, typeIs, valueAnswer, valuesAnswer, readWords, readFlags, readTail}
 use Rattle.tail.specs.Answers.{judgeSnapshot, decodeSnapshot}
 
 record Row : Type 0 where
@@ -33,5 +33,5 @@ abbrev answerTo : Row → Answer
 answerTo r = decodeSnapshot targetBoundClasses (r .manifest) (r .tail) (r .base) 2 (replicate (indexWords (length (r .manifest))) 0) .answer
 
 rows-hold : All (λ (r : Row). answerTo r ≡ r .answer) rows
-unfolding opened words flags valueKey valueOf typeIs valueAnswer valuesAnswer readFlags readTail judgeSnapshot decodeSnapshot
+unfolding opened words flags valueKey valueOf typeIs valueAnswer valuesAnswer readWords readFlags readTail judgeSnapshot decodeSnapshot
 rows-hold = alike-each answerTo (λ (r : Row). r .answer) rows refl

@@ -21,7 +21,7 @@ use Rattle.questions.specs.Answers.{judge}
 use Rattle.questions.specs.Units.{wordTotal}
 use Rattle.questions.proofs.Numbers.{Of, unless-of, first-of, all-of, of-inside}
 use Rattle.questions.proofs.Accepted.{judge-tells, decoded-got}
-use Rattle.tail.specs.Tail.{values, words, flags, valueAnswer, valuesAnswer, heed, readFlags, readTail}
+use Rattle.tail.specs.Tail.{values, words, flags, valueAnswer, valuesAnswer, heed, readWords, readFlags, readTail}
 use Rattle.tail.specs.Answers.{behind, judgeSnapshot, decodeSnapshot}
 
 -- ---- which questions a tail is asked: none before 3
@@ -41,14 +41,17 @@ late-heed (suc q) p h l = let i : 3 ≤ suc q = omega (arith, of-inside h (λ e.
 
 -- so it is of a tail
 late-tail : (m : El manifest) (t : List ℕ) → Late (readTail m t)
-unfolding readTail readFlags words flags
+unfolding readTail readWords readFlags words flags
 late-tail m t =
     late-bind (late-read t maxSnapshotBytes (counted values) 0) λ vs p.
     late-heed (valuesAnswer (enumsOf m) (connectorsOf m) vs) p (values-of (enumsOf m) (connectorsOf m) vs) (
-    late-bind (late-read t maxSnapshotBytes words p) λ ws q.
-    late-ask (eqb (length ws) (wordTotal (slotsOf m))) 37 p (omega arith) (
-    late-bind (flags-late q) λ f n. read-so))
+    late-bind (words-late p) λ ws q.
+    late-bind (flags-late q) λ f n. read-so)
   where
+    words-late : (at : ℕ) → Late (readWords (wordTotal (slotsOf m)) t at)
+    words-late at =
+        late-bind (late-read t maxSnapshotBytes words at) λ ws n. late-ask (eqb (length ws) (wordTotal (slotsOf m))) 37 at (omega arith) read-so
+
     flags-late : (at : ℕ) → Late (readFlags t at)
     flags-late at =
         late-bind (late-read t maxSnapshotBytes flags at) λ f n.
@@ -88,6 +91,14 @@ yields-heed : {A : Type 0} {P : A → ℕ → Type 0} (q p : ℕ) {o : Outcome A
 yields-heed zero p h = h refl
 yields-heed (suc q) p h = nothing
 
+-- words that were read are as many as the total
+yields-words : (total : ℕ) (t : List ℕ) (at : ℕ) → Yields (λ ws n. (read maxSnapshotBytes words t at ≡ got ws n) × (wordCount ws ≡ total)) (readWords total t at)
+unfolding readWords words wordCount
+yields-words total t at =
+    yields-bind (self (read maxSnapshotBytes words t at)) λ ws n e.
+    yields-ask (eqb (length ws) total) _ _ λ a.
+    this (e, eqb-true _ _ a)
+
 -- flags that were read are zero, and end the tail
 yields-flags : (t : List ℕ) (at : ℕ) → Yields (λ f n. (read maxSnapshotBytes flags t at ≡ got noFlags n) × (n ≡ length t)) (readFlags t at)
 unfolding readFlags flags noFlags
@@ -99,12 +110,11 @@ yields-flags t at =
 
 -- the whole of a tail
 yields-tail : (m : El manifest) (t : List ℕ) → Yields (λ m′ n. (m′ ≡ m) × TailRead m t n) (readTail m t)
-unfolding readTail words wordCount
+unfolding readTail
 yields-tail m t =
     yields-bind (self (read maxSnapshotBytes (counted values) t 0)) λ vs p a.
     yields-heed (valuesAnswer (enumsOf m) (connectorsOf m) vs) p λ b.
-    yields-bind (self (read maxSnapshotBytes words t p)) λ ws q c.
-    yields-ask (eqb (length ws) (wordTotal (slotsOf m))) _ _ λ d.
+    yields-bind (yields-words (wordTotal (slotsOf m)) t p) λ ws q c.
     yields-bind (yields-flags t q) λ f n e.
     this (
       refl,
@@ -115,8 +125,8 @@ yields-tail m t =
         q = q;
         values-read = a;
         none = b;
-        words-read = c;
-        total = eqb-true _ _ d;
+        words-read = c .0;
+        total = c .1;
         flags-read = e .0;
         whole = e .1;
       },

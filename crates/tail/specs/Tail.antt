@@ -56,6 +56,11 @@ module _ {A : Type 0} where
   heed zero p k = k
   heed (suc q) p k = refused (suc q) p
 
+-- "At the word count's start, after the words are read: equal to the slots' total? 37"
+unfoldable pub readWords : (total : ℕ) → List ℕ → ℕ → Outcome (El words)
+unfolding words
+readWords total t at = bind (read maxSnapshotBytes words t at) (λ ws n. ask (eqb (length ws) total) 37 at (got ws n))
+
 -- "At the flags' start: zero? 38", and "10 after 38"
 unfoldable pub readFlags : List ℕ → ℕ → Outcome (El flags)
 unfolding flags
@@ -64,14 +69,12 @@ readFlags t at =
     ask (eqb f 0) 38 at (
     ask (eqb n (length t)) 10 n (got f n)))
 
--- "In the tail 3 to 7, 9 and 10 hold .. At the end of the values: .. 33 .. 36. At the word count's start, after the words are read: equal to the slots'
--- total? 37." "Acceptance gives what the manifest's gives": the manifest is what comes of it
+-- "In the tail 3 to 7, 9 and 10 hold .. At the end of the values: .. 33 .. 36." "Acceptance gives what the manifest's gives": the manifest is what
+-- comes of it
 unfoldable pub readTail : El manifest → List ℕ → Outcome (El manifest)
-unfolding words
 readTail m t =
     bind (read maxSnapshotBytes (counted values) t 0) (λ vs p.
     heed (valuesAnswer (enumsOf m) (connectorsOf m) vs) p (
-    bind (read maxSnapshotBytes words t p) (λ ws q.
-    ask (eqb (length ws) (wordTotal (slotsOf m))) 37 p (
+    bind (readWords (wordTotal (slotsOf m)) t p) (λ ws q.
     bind (readFlags t q) (λ f n.
-    got m n)))))
+    got m n))))

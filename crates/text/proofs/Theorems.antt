@@ -136,6 +136,7 @@ encoded-at k v r b h f =
     ∙ reads k 0 k v r
     ∙ f
 
+-- what a scalar value is written as is one character, of its row's width
 pub encoded : (v : ℕ) (r : List ℕ) → scalar v ≡ true → charWidth (encode v ++ r) ≡ suc (row v)
 encoded v r t =
     let b = room v t in
@@ -162,6 +163,7 @@ valid-by (suc n) bs h = go (charWidth bs) refl (valid-by n)
         ∙ ap (λ (n : ℕ). take n bs) (sym (step bs (suc k) e (omega arith))) in
         subst Text q t
 
+-- the valid prefix is text
 pub valid-text : (bs : List ℕ) → Text (take (validUpTo bs) bs)
 valid-text bs = valid-by (length bs) bs (omega arith)
 
@@ -180,10 +182,12 @@ text-valid p r (char v {bs} t q) =
       length-encode v,
     )
 
+-- no longer prefix is text
 pub longest : (bs : List ℕ) (n : ℕ) → n ≤ length bs → Text (take n bs) → n ≤ validUpTo bs
 longest bs n h t =
     omega (arith, text-valid (take n bs) (drop n bs) t, ap validUpTo (take-append-drop n bs), length-take-le n bs h)
 
+-- all bytes are valid exactly if they are text
 pub valid-iff : (bs : List ℕ) → validUpTo bs ≡ length bs ↔ Text bs
 valid-iff bs = (
   λ e. subst Text (ap (λ (n : ℕ). take n bs) e ∙ take-length bs) (valid-text bs),

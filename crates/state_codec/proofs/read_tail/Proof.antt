@@ -1,5 +1,4 @@
-use native.Mathlib.Omega.{arith}
-use Rattle.state_codec.proofs.Reading.{slots-fit, starts-long, values-stop, values-well, values-no, words-stop, words-other, words-right}
+use Rattle.state_codec.proofs.Reading.{starts-long, slots-fit, values-stop, values-well, values-no, words-stop, words-right}
 use borrow.Author.Needs.{needs}
 use Rattle.state_codec.proofs.read_tail.Statement.{statement}
 use Rattle.state_codec.proofs.read_tail.Tie as tie
@@ -34,6 +33,16 @@ returns-2 c =
     let g = r .before .before .before .before in
     values-no (g .pre .0) _ (r .read-values .ensures) (v2 .values .given .1) (v .validate-values .ensures) (c .if1 .taken)
 
+word-at-requires : tie.Need-word-at-requires
+word-at-requires c κs =
+    let g = c .before .before .before .before .before .before .before .before .before in
+    starts-long (g .pre .0)
+
+state-words-requires : tie.Need-state-words-requires
+state-words-requires c κs =
+    let g = c .before .before .before .before .before .before .before .before .before .before in
+    slots-fit (g .pre .0) (c .word-at .ensures)
+
 read-words-requires : tie.Need-read-words-requires
 read-words-requires c κs = search needs
 
@@ -46,59 +55,32 @@ enum-told-2 c = search needs
 returns-3 : tie.Need-returns-3
 returns-3 c =
     let r = c .before .before in
-    let i = r .before in
-    let v = i .before in
-    let v2 = v .before .before in
-    let r2 = v2 .before .before in
-    let g = r2 .before .before .before .before in
-    words-stop (g .pre .0) _ (r2 .read-values .ensures) (v2 .values .given .1) (v .validate-values .ensures) (i .if1 .left) (r .read-words .ensures) (c .enum-told2 .given .1)
-
-number-at-requires : tie.Need-number-at-requires
-number-at-requires c κs = search needs
-
-word-at-requires : tie.Need-word-at-requires
-word-at-requires c κs =
-    let g = c .before .before .before .before .before .before .before .before .before .before .before .before .before .before in
-    starts-long (g .pre .0)
-
-state-words-requires : tie.Need-state-words-requires
-state-words-requires c κs =
-    let g = c .before .before .before .before .before .before .before .before .before .before .before .before .before .before .before in
-    slots-fit (g .pre .0) (c .word-at .ensures)
-
-returns-4 : tie.Need-returns-4
-returns-4 c =
-    let s = c .before in
+    let s = r .before in
     let w = s .before in
-    let n = w .before in
-    let w2 = n .before .before in
-    let r = w2 .before .before in
-    let i = r .before in
+    let i = w .before in
     let v = i .before in
     let v2 = v .before .before in
     let r2 = v2 .before .before in
     let g = r2 .before .before .before .before in
-    words-other (g .pre .0) _ (r2 .read-values .ensures) (v2 .values .given .1) (v .validate-values .ensures) (i .if1 .left) (r .read-words .ensures) (w2 .words .given .1)
-    (n .number-at .ensures) (w .word-at .ensures) (s .state-words .ensures) (c .if2 .taken)
+    words-stop (g .pre .0) _ (r2 .read-values .ensures) (v2 .values .given .1) (v .validate-values .ensures) (i .if1 .left)
+    (w .word-at .ensures) (s .state-words .ensures) (r .read-words .ensures) (c .enum-told2 .given .1)
 
 read-flags-requires : tie.Need-read-flags-requires
 read-flags-requires c κs = search needs
 
-returns-5 : tie.Need-returns-5
-returns-5 c =
-    let i = c .before in
-    let s = i .before in
-    let w = s .before in
-    let n = w .before in
-    let w2 = n .before .before in
-    let r = w2 .before .before in
-    let i2 = r .before in
-    let v = i2 .before in
+returns-4 : tie.Need-returns-4
+returns-4 c =
+    let w = c .before .before in
+    let r = w .before .before in
+    let s = r .before in
+    let w2 = s .before in
+    let i = w2 .before in
+    let v = i .before in
     let v2 = v .before .before in
     let r2 = v2 .before .before in
     let g = r2 .before .before .before .before in
-    words-right (g .pre .0) _ (r2 .read-values .ensures) (v2 .values .given .1) (v .validate-values .ensures) (i2 .if1 .left) (r .read-words .ensures) (w2 .words .given .1)
-    (n .number-at .ensures) (w .word-at .ensures) (s .state-words .ensures) (i .if2 .left) (c .read-flags .ensures)
+    words-right (g .pre .0) _ (r2 .read-values .ensures) (v2 .values .given .1) (v .validate-values .ensures) (i .if1 .left)
+    (w2 .word-at .ensures) (s .state-words .ensures) (r .read-words .ensures) (w .words .given .1) (c .read-flags .ensures)
 
 pub read-tail-spec : {M : Type 1} → statement M
 read-tail-spec =
@@ -110,13 +92,11 @@ read-tail-spec =
     returns
     validate-values-requires
     returns-2
+    word-at-requires
+    state-words-requires
     read-words-requires
     enum-known-words
     enum-told-2
     returns-3
-    number-at-requires
-    word-at-requires
-    state-words-requires
-    returns-4
     read-flags-requires
-    returns-5)
+    returns-4)

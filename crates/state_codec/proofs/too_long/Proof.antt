@@ -1,14 +1,10 @@
 use Rattle.state_codec.proofs.Words.{sum-above, sum-told}
 use Rattle.state_codec.proofs.too_long.Statement.{statement}
 use Rattle.state_codec.proofs.too_long.Tie as tie
-use Rattle.state_codec.proofs.too_long.Reads as reads
-use Rattle.state_codec.proofs.too_long.Lts as lts
 
--- src/lib.rt:58:9
 returns : tie.Need-returns
 returns c = sum-above _ _ (c .if1 .taken)
 
--- src/lib.rt:54:1
 returns-2 : tie.Need-returns-2
 returns-2 c = sum-told _ _ (c .if1 .left)
 
