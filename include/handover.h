@@ -12,7 +12,7 @@
 extern "C" {
 #endif
 
-/* The most bytes of a manifest. */
+/* The most bytes of a manifest, or of a manifest and its tail. */
 #define HANDOVER_MOST_BYTES 67108864
 
 /* The least words of the index for a manifest of n bytes. */
@@ -44,6 +44,21 @@ extern "C" {
    16  classes are not those that are named      32  an empty target string */
 uint32_t handover_decode_manifest(const uint8_t *bytes, size_t n, uint64_t base, uint32_t revision, uint32_t *index,
                                   size_t words, uint64_t answer[16]);
+
+/* Judges one manifest and its tail, which is what follows it in a snapshot: connector values, state words and flags.
+   The manifest is judged first, as by handover_decode_manifest. Base, revision and index are those of the manifest, and
+   so is the least number of the index's words; offsets in the tail count on from the manifest's end.
+
+   Result 0: both are accepted. answer and index are as after acceptance above.
+
+   Result 1 to 38: the number of the first question that was answered no; answer and index are as after a refusal above.
+   1 is for both lengths together. 2 to 32 are of the manifest, but 3 to 7, 9 and 10 are asked in the tail as well, and
+   33  not as many values as connectors         36  an enum value's ordinal out of range
+   34  a value for an unknown connector         37  not as many words as the slots have
+   35  a value of another type than its         38  flags that are not 0
+       connector's */
+uint32_t handover_decode_tail(const uint8_t *manifest, size_t manifest_n, const uint8_t *tail, size_t tail_n,
+                              uint64_t base, uint32_t revision, uint32_t *index, size_t words, uint64_t answer[16]);
 
 /* Counts the units of one manifest: four for each of its state words, and one for each connector. Bytes, base, revision
    and index are those of handover_decode_manifest.

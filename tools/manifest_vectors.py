@@ -6,15 +6,18 @@
 ORACLE is the program built from the published Rust; its record 'm' (base, revision, a manifest) runs decode_manifest
 and gives `refused QUESTION OFFSET | ..` or `accepted WORDS CONNECTORS s1 .. s12 ..`, the section starts. Its record 'v'
 (two of these) runs compare_manifests and gives `compatible`, `differs SECTION PART ENTRY INNER`, or the refusal after
-`snapshot` or `target`. Its answers are taken as they are. Questions 1 and 2 are not the Rust's: the answers of lines
-with too few index words are from document 01's rule, and question 1, which needs more than 64 MiB, is tested by
+`snapshot` or `target`. Its record 't' (the same as 'm', and a tail) runs decode_snapshot on them in a valid frame, and
+answers as 'm'. Its answers are taken as they are. Questions 1 and 2 are not the Rust's: the answers of lines with too
+few index words are from document 01's rule, and question 1, which needs more than 64 MiB, is tested by
 tools/bench/decoding.rs. crates/replay_manifests/src/main.rt has the meaning of the lines. Fixed seeds: a second run
 writes the same files.
 
-The inputs are those of tools/manifest_cases.py, for questions 3 to 10, of tools/question_cases.py, for 11 to 32, and
-of tools/verdict_cases.py, pairs. The run fails unless each of the questions 2 to 32 was met at least 20 times, each
-from 3 to 9 in every section in which it can arise, and each from 11 to 32 by every kind of edit that is made for it;
-and of the pairs each section and part in which accepted manifests can differ, and every kind of edit, at least 5 times.
+The inputs are those of tools/manifest_cases.py, for questions 3 to 10, of tools/question_cases.py, for 11 to 32, of
+tools/verdict_cases.py, pairs, and of tools/tail_cases.py, tails; a tail that the Rust refuses for its budget is left
+out. The run fails unless each of the questions 2 to 32 was met at least 20 times, each from 3 to 9 in every section in
+which it can arise, and each from 11 to 32 by every kind of edit that is made for it; of the pairs each section and part
+in which accepted manifests can differ, and every kind of edit, at least 5 times; and of the tails each question that
+can arise there, and every kind of edit, at least 5 times, each by those that are made for it.
 """
 import collections
 import os
@@ -26,6 +29,7 @@ import sys
 from manifest_cases import all_cases
 from manifests import *
 from question_cases import EACH, EDITS, question_cases
+from tail_cases import show_tails, tail_cases
 from verdict_cases import show_pairs, verdict_pairs
 
 ROOT = os.path.dirname(os.path.dirname(os.path.abspath(__file__)))
@@ -106,6 +110,19 @@ def verdict(snapshot, target, words):
     return " ".join([*words, snapshot, target]).replace("accepted", "starts")
 
 
+def with_tail(x):
+    return call(x) + struct.pack("<I", len(x.tail)) + x.tail
+
+
+def ask_tails(made):
+    """The manifests with tails that the Rust has room for, what the manifests answer alone, and what both answer."""
+    words = told([b"t" + with_tail(x) for x in made])
+    kept = [(x, said) for x, said in zip(made, words) if said[1] != "budget"]
+    print("%d tails left out, for the Rust's budget" % (len(made) - len(kept)))
+    asked = [x for x, _ in kept]
+    return asked, ask(asked), [answer(*x) for x in kept]
+
+
 def question(said):
     return int(said.split()[1]) if said.startswith("refused") else 0
 
@@ -141,10 +158,13 @@ def row(x):
 def main():
     asked, pairs = all_lines(), verdict_pairs(random.Random(2417))
     answers, (sides, verdicts) = ask(asked), ask_pairs(pairs)
+    tails, alone, snapshots = ask_tails(tail_cases(random.Random(3301)))
     show(asked, answers)
     show_pairs(pairs, sides, verdicts)
+    show_tails(tails, alone, snapshots)
     rows = [row(x) for x in asked] + [row(x.snapshot) + " " + row(x.target) for x in pairs]
-    for name, content in (("stdin", rows), ("stdout", answers + verdicts)):
+    rows += [row(x) + " " + (x.tail.hex() or "-") for x in tails]
+    for name, content in (("stdin", rows), ("stdout", answers + verdicts + snapshots)):
         with open(os.path.join(ROOT, "crates", "replay_manifests", name), "w", newline="\n") as f:
             f.write("".join(line + "\n" for line in content))
 

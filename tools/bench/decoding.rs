@@ -1,16 +1,28 @@
-//! Judges large manifests, questions 1 to 32, compares pairs of them, and prints how fast: decoding [ORACLE FOLDER]
-//! With the oracle built from the published Rust, its decode_manifest and compare_manifests are timed on the same bytes,
-//! by way of files in FOLDER. A row is the best of some rounds on one thread; bytes and indexes are in memory.
+//! Judges large manifests, questions 1 to 32, and some with their tails, 33 to 38, compares pairs of them, and prints how
+//! fast: decoding [ORACLE FOLDER]
+//! With the oracle built from the published Rust, its decode_manifest, decode_snapshot and compare_manifests are timed on
+//! the same bytes, by way of files in FOLDER. A row is the best of some rounds on one thread; bytes and indexes are in memory.
 use std::process::Command;
 use std::time::Instant;
 
 mod plants;
-use plants::{class, plant};
+use plants::{class, plant, plant_and_tail};
 
 extern "C" {
     fn handover_decode_manifest(
         bytes: *const u8,
         n: usize,
+        base: u64,
+        revision: u32,
+        index: *mut u32,
+        m: usize,
+        answer: *mut u64,
+    ) -> u32;
+    fn handover_decode_tail(
+        manifest: *const u8,
+        n: usize,
+        tail: *const u8,
+        t: usize,
         base: u64,
         revision: u32,
         index: *mut u32,
@@ -42,6 +54,15 @@ fn decode(bytes: &[u8], index: &mut [u32]) -> (u32, u64) {
     (question, answer[0])
 }
 
+/// The same of a manifest and its tail.
+fn decode_tail(bytes: &[u8], tail: &[u8], index: &mut [u32]) -> (u32, u64) {
+    let mut answer = [7; 16];
+    let (b, n, t, k) = (bytes.as_ptr(), bytes.len(), tail.as_ptr(), tail.len());
+    let (i, m) = (index.as_mut_ptr(), index.len());
+    let question = unsafe { handover_decode_tail(b, n, t, k, 0, 2, i, m, answer.as_mut_ptr()) };
+    (question, answer[0])
+}
+
 /// Section and part of a verdict, 0 and 0 for a compatible pair; both are accepted.
 fn compare(s: &[u8], i: &mut [u32], t: &[u8], j: &mut [u32]) -> (u64, u64) {
     let mut answer = [7; 16];
@@ -55,12 +76,18 @@ fn index_words(n: usize) -> usize {
     n / 2 + 16
 }
 
-/// What the oracle says of one of its functions: seconds of the best of five runs, and its answer.
-fn rust_time(oracle: &str, folder: &str, bytes: &[u8], function: &str) -> (f64, String) {
-    let file = format!("{folder}/manifest");
+/// What the oracle prints of a manifest, and of its tail where there is one.
+fn rust_bench(oracle: &str, folder: &str, bytes: &[u8], tail: Option<&[u8]>) -> String {
+    let (file, behind) = (format!("{folder}/manifest"), format!("{folder}/tail"));
     std::fs::write(&file, bytes).expect("write the manifest");
-    let out = Command::new(oracle).args(["bench", &file, "-", "5"]).output().expect("run the oracle").stdout;
-    let out = String::from_utf8_lossy(&out).to_string();
+    std::fs::write(&behind, tail.unwrap_or(b"")).expect("write the tail");
+    let second = if tail.is_some() { &behind } else { "-" };
+    let out = Command::new(oracle).args(["bench", &file, second, "5"]).output().expect("run the oracle").stdout;
+    String::from_utf8_lossy(&out).to_string()
+}
+
+/// What that says of one function: seconds of the best of five runs, and its answer.
+fn rust_line(out: &str, function: &str) -> (f64, String) {
     let line = out.lines().find(|l| l.starts_with(function)).unwrap_or("");
     let ms = line.split("wall ").nth(1).and_then(|l| l.split(' ').next()).and_then(|n| n.parse::<f64>().ok());
     let answer = line.split(": ").nth(2).unwrap_or("?").split(" | ").next().unwrap_or("?");
@@ -78,7 +105,7 @@ fn row(name: &str, rounds: usize, bytes: &[u8], oracle: &[String]) {
     let rate = |t: f64| bytes.len() as f64 / t / 1e6;
     print!("| {name} | {:.1} | {:.1} | {:.0} |", bytes.len() as f64 / 1e6, best * 1e3, rate(best));
     if let [program, folder] = oracle {
-        let (rust, answer) = rust_time(program, folder, bytes, "decode_manifest");
+        let (rust, answer) = rust_line(&rust_bench(program, folder, bytes, None), "decode_manifest");
         print!(" {:.1} | {:.1} | {answer} |", rust * 1e3, rust / best);
     }
     println!();
@@ -102,9 +129,32 @@ fn verdict_row(size: usize, rounds: usize, oracle: &[String]) {
     let (same, differs) = (time(&bytes, (0, 0)), time(&other, (3, 7)));
     print!("| two plants, {size} MiB each | {:.1} | {:.1} |", same * 1e3, differs * 1e3);
     if let [program, folder] = oracle {
-        let of = |function| rust_time(program, folder, &bytes, function).0;
+        let out = rust_bench(program, folder, &bytes, None);
+        let of = |function| rust_line(&out, function).0;
         let rust = 2.0 * of("decode_manifest") + of("compare_manifests");
         print!(" {:.1} | {:.1} | {:.1} |", rust * 1e3, rust / same, rust / differs);
+    }
+    println!();
+}
+
+/// A plant with its tail. The Rust's decode_snapshot also hashes the whole file and the manifest in it; the time of these
+/// two is taken off.
+fn tail_row(size: usize, rounds: usize, oracle: &[String]) {
+    let (bytes, tail) = plant_and_tail(size << 20);
+    let mut index = vec![0u32; index_words(bytes.len())];
+    let best = (0..rounds).fold(f64::MAX, |best, _| {
+        let start = Instant::now();
+        assert_eq!(decode_tail(&bytes, &tail, &mut index), (0, 0));
+        best.min(start.elapsed().as_secs_f64())
+    });
+    let mb = |n: usize| n as f64 / 1e6;
+    print!("| plant, {size} MiB, and its tail | {:.1} | {:.1} | {:.1} |", mb(bytes.len()), mb(tail.len()), best * 1e3);
+    if let [program, folder] = oracle {
+        let out = rust_bench(program, folder, &bytes, Some(&tail));
+        let (all, answer) = rust_line(&out, "decode_snapshot");
+        let hashed = 1.0 + bytes.len() as f64 / (bytes.len() + tail.len()) as f64;
+        let rust = all - hashed * rust_line(&out, "fnv-128 alone").0;
+        print!(" {:.1} | {:.1} | {answer} |", rust * 1e3, rust / best);
     }
     println!();
 }
@@ -118,6 +168,12 @@ fn too_much_or_too_little() {
         assert!(index.iter().all(|w| *w == left));
     }
     assert_eq!(decode(&vec![0; MOST], &mut vec![9; index_words(MOST)]), (10, 45));
+    // of a manifest and its tail both lengths count, and the index is the manifest's
+    let (zeros, mut index) = (vec![0; MOST], vec![9u32; index_words(45)]);
+    assert_eq!(decode_tail(&zeros[..45], &zeros[45..], &mut index), (10, 61));
+    index.fill(9);
+    assert_eq!(decode_tail(&zeros[..45], &zeros[44..], &mut index), (1, 0));
+    assert!(index.iter().all(|w| *w == 0));
 }
 
 fn main() {
@@ -131,6 +187,12 @@ fn main() {
     }
     row("a class of 2,000,000 members, sorted", 5, &class(2_000_000, false), &oracle);
     row("the same, shuffled", 5, &class(2_000_000, true), &oracle);
+    print!("\n| decode_tail, questions 1 to 38 | manifest, MB | tail, MB | ms |");
+    print!("{}", if oracle.is_empty() { "" } else { " Rust, ms | ratio | its answer |" });
+    println!("\n|---|---|---|---|{}", if oracle.is_empty() { "" } else { "---|---|---|" });
+    for (size, rounds) in [(1, 100), (16, 20)] {
+        tail_row(size, rounds, &oracle);
+    }
     print!("\n| compare_manifests, both read and compared | compatible, ms | differing in section 3, ms |");
     print!("{}", if oracle.is_empty() { "" } else { " Rust, equal, ms | ratio | ratio |" });
     println!("\n|---|---|---|{}", if oracle.is_empty() { "" } else { "---|---|---|" });

@@ -161,6 +161,21 @@ impl Plant {
         std::mem::take(&mut w.0)
     }
 
+    /// A value for each connector, all state words, no flags.
+    fn tail(&self) -> Vec<u8> {
+        let w = &mut Wire::default();
+        w.list(&self.ports, |w, p| {
+            w.port(&self.names[p.block], *p);
+            w.tag(0);
+            w.u64(p.block);
+        });
+        let words = self.words.iter().sum();
+        w.u64(words);
+        (0..words).for_each(|i| w.u64(i));
+        w.u32(0);
+        std::mem::take(&mut w.0)
+    }
+
     fn slots(&self, w: &mut Wire) {
         let stateful: Vec<usize> = (0..self.words.len()).filter(|i| self.words[*i] > 0).collect();
         let mut at = 0;
@@ -173,10 +188,20 @@ impl Plant {
     }
 }
 
+fn sized(size: usize) -> Plant {
+    let each = Plant::new(10_000).bytes().len() as f64 / 10_000.0;
+    Plant::new((size as f64 / each * 0.995) as usize)
+}
+
 /// A plant of about so many bytes, at most.
 pub fn plant(size: usize) -> Vec<u8> {
-    let each = Plant::new(10_000).bytes().len() as f64 / 10_000.0;
-    Plant::new((size as f64 / each * 0.995) as usize).bytes()
+    sized(size).bytes()
+}
+
+/// The same with its tail.
+pub fn plant_and_tail(size: usize) -> (Vec<u8>, Vec<u8>) {
+    let plant = sized(size);
+    (plant.bytes(), plant.tail())
 }
 
 /// One class of so many members, in order or shuffled, and a block that names it.

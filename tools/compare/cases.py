@@ -1,19 +1,23 @@
-"""Manifests and pairs of them for tools/compare/compare.py, made by the dice.
+"""Manifests, pairs of them and manifests with tails for tools/compare/compare.py, made by the dice.
 
 The manifests are accepted ones (`plant` of tools/manifests.py), then one edit or two of their structure
 (tools/*_edits.py), fields written over, entries out of order, bytes changed, left out, put in, cut off or added, or as
 many state words as the units allow, and more. Base, revision and the length of the index vary. The pairs are those of
 tools/verdict_cases.py, and others: a manifest with up to three of the edits that leave it accepted, against itself
-before them, either one written over as above, or not.
+before them, either one written over as above, or not. The tails fit their manifest, and then: one of the edits of
+tools/tails.py or two, a field written over, bytes changed, left out, put in, cut off or added, another manifest's tail,
+or none of it; one manifest in ten is written over as above.
 """
 import os
 import sys
+from collections import namedtuple
 
 sys.path.insert(0, os.path.dirname(os.path.dirname(os.path.abspath(__file__))))
 from manifest_cases import other_edits, refused_edits
 from verdict_cases import BREAKING, EDITS, Pair, Side, edited, verdict_pairs
 from manifest_parts import *
 from verdict_table import by_offset, rejoin
+import tails as on_tails
 
 FROM_ONE = 12  # cases that are made of one manifest
 
@@ -67,7 +71,11 @@ def entries(dice, m):
 
 
 def some_bytes(dice, m):
-    b = bytearray(encode(m))
+    return scattered(dice, encode(m))
+
+
+def scattered(dice, b):
+    b = bytearray(b)
     for _ in range(dice.choice((1, 1, 2, 5))):
         at = dice.randrange(len(b) + 1)
         new = dice.choice((b"", b"\0", b"\1", b"\2", b"\x80", b"\xff", bytes([dice.getrandbits(8)])))
@@ -111,12 +119,13 @@ KINDS += [intact] * 2
 # -- Cases ------------------------------------------------------------------------------------------------------
 
 
-def dressed(dice, b):
+def dressed(dice, b, more=0):
+    """With a base, also for so many bytes behind it, a revision and an index."""
     least = needed(b)
     revision = dice.choice((2,) * 8 + (0, 1, 3, dice.getrandbits(32)))
     longer, shorter = (least + 1, least + dice.randrange(300)), (least - 1, dice.randrange(least))
     words = dice.choice((least,) * 8 + longer * 2 + shorter)
-    return Side(some_base(dice, len(b)), revision, words, b)
+    return Side(some_base(dice, len(b) + more), revision, words, b)
 
 
 def cases(dice, n):
@@ -155,3 +164,61 @@ def pairs(dice, n):
         if m[3]:  # the edits are for manifests with blocks
             made += [other_pair(dice, m) for _ in range(FROM_ONE)]
     return dice.sample(made, n)
+
+
+# -- Tails ------------------------------------------------------------------------------------------------------
+
+Tailed = namedtuple("Tailed", "manifest tail")  # a side, and bytes
+
+
+def fitting(dice, m):
+    return on_tails.tail_bytes(on_tails.fitting(dice, opened(m)))
+
+
+def tail_edits(dice, m):
+    """One edit, or two; all questions alike, however many edits there are for each."""
+    p = opened(m)
+    t = on_tails.fitting(dice, p)
+    for _ in range(dice.choice((1, 1, 2))):
+        question = dice.choice(sorted({edit.question for edit in on_tails.EDITS}))
+        edit = dice.choice([edit for edit in on_tails.EDITS if edit.question == question])
+        try:
+            edit.change(dice, p, t)
+        except Nothing:
+            pass
+    return on_tails.tail_bytes(t)
+
+
+def tail_fields(dice, m):
+    t = on_tails.fitting(dice, opened(m))
+    return dice.choice(on_tails.broken(t, dice.choice((3, 4, 5, 6))) or [on_tails.tail_bytes(t)])
+
+
+def tail_bytes_changed(dice, m):
+    return scattered(dice, fitting(dice, m))
+
+
+def tail_cut(dice, m):
+    b = fitting(dice, m)
+    return b[: dice.randrange(len(b) + 1)]
+
+
+def tail_of_another(dice, m):
+    return fitting(dice, some_plant(dice))
+
+
+TAIL_KINDS = [tail_edits] * 12 + [tail_fields] * 2 + [tail_bytes_changed] * 2 + [tail_cut, tail_of_another, noise]
+TAIL_KINDS += [fitting] * 3
+
+
+def tailed(dice, m):
+    t = dice.choice(TAIL_KINDS)(dice, m)
+    return Tailed(dressed(dice, dice.choice([intact] * 9 + [dice.choice(KINDS)])(dice, m), len(t)), t)
+
+
+def tails(dice, n):
+    made = []
+    while len(made) < n:
+        m = some_plant(dice)
+        made += [tailed(dice, m) for _ in range(FROM_ONE)]
+    return made[:n]

@@ -1,11 +1,12 @@
-"""Feeds manifests and pairs to the published Rust and to the C interface, and compares what they answer.
+"""Feeds manifests, pairs and tails to the published Rust and to the C interface, and compares what they answer.
 
     python3 tools/compare/compare.py ORACLE DRIVER [CASES [SEED]]        (tools/compare/run builds DRIVER)
 
-CASES manifests, each for handover_decode_manifest and for handover_units, and half as many pairs for
-handover_compare_manifests; tools/compare/cases.py makes them. The driver tells the result, the whole answer, and what
-the indexes hold after the call. What is expected of them is the Rust's, but for document 01's additions: question 2,
-where an index is too short, the units, and question 39.
+CASES manifests, each for handover_decode_manifest and for handover_units, half as many pairs for
+handover_compare_manifests, and half as many manifests with a tail for handover_decode_tail; tools/compare/cases.py
+makes them. The driver tells the result, the whole answer, and what the indexes hold after the call. What is expected of
+them is the Rust's, but for document 01's additions: question 2, where an index is too short, the units, and question
+39. A tail that the Rust refuses for its budget is counted apart.
 """
 import collections
 import multiprocessing
@@ -15,7 +16,7 @@ import struct
 import subprocess
 import sys
 
-from cases import HIGHEST, cases, needed, pairs
+from cases import HIGHEST, cases, needed, pairs, tails
 
 BATCH = 5000  # manifests at a time
 SHOWN = 5  # differences that are shown in full
@@ -44,6 +45,10 @@ def our_side(x):
 
 def both_sides(pair, side):
     return side(pair.snapshot) + side(pair.target)
+
+
+def with_tail(x, side):
+    return side(x.manifest) + struct.pack("<I", len(x.tail)) + x.tail
 
 
 # -- What is expected -------------------------------------------------------------------------------------------
@@ -117,6 +122,16 @@ def of_pairs(oracle, driver, made):
         yield "compare_manifests", both_sides(x, our_side), compared(snapshot, target, line), answer
 
 
+def of_tails(oracle, driver, made):
+    ours = lines(driver, [b"t" + with_tail(x, our_side) for x in made])
+    told = lines(oracle, [b"t" + with_tail(x, rust_side) for x in made])
+    for x, line, answer in zip(made, told, ours):
+        if line.startswith("refused budget"):
+            yield "decode_tail, refused for the Rust's budget", with_tail(x, our_side), answer, answer
+        else:
+            yield "decode_tail", with_tail(x, our_side), decoded(said(x.manifest, line)), answer
+
+
 def label(name, answer):
     """What an answer is counted as: the call, and the question (0: accepted) or section and part (0, 0: compatible)."""
     result, first, second = (int(w) for w in answer.split()[:3])
@@ -131,6 +146,7 @@ def batch(job):
     dice = random.Random(seed)
     agreed, differ = collections.Counter(), []
     every = [of_manifests(oracle, driver, cases(dice, n)), of_pairs(oracle, driver, pairs(dice, n // 2))]
+    every.append(of_tails(oracle, driver, tails(dice, n // 2)))
     for name, record, expected, answer in (x for some in every for x in some):
         if answer != expected:
             differ.append((name, record, expected, answer))

@@ -1,11 +1,12 @@
 /* Answers manifests through the C interface: records on standard input, a line for each on standard output.
    A side is base (8 bytes), revision (4), index words (4), length (4), all little-endian, and the manifest's bytes.
    Record 'm' is a side: handover_decode_manifest and handover_units are called on it. Record 'v' is the snapshot's side
-   and the target's: handover_compare_manifests is called on them.
+   and the target's: handover_compare_manifests is called on them. Record 't' is a side, length (4) and bytes of a tail:
+   handover_decode_tail is called on them.
    A line tells what a call left, a tab between two calls: the result and the sixteen words of the answer; for each
    index ` lent` (as it was), ` zeros`, ` starts S1 .. S12` (and then zeros) or ` other`; and then ` guard` where words
-   before or behind an index were written, ` bytes` where a manifest was. A manifest is lent in memory of exactly its
-   length. */
+   before or behind an index were written, ` bytes` where a manifest was, ` tail` where a tail was. A manifest, and a
+   tail, is lent in memory of exactly its length. */
 #include <stdio.h>
 #include <stdlib.h>
 #include <string.h>
@@ -15,11 +16,16 @@
 #define GUARD 64 /* words before and behind an index */
 #define FILL 0xa5c3f00du
 
+struct part {
+    size_t n;
+    uint8_t *bytes, *kept; /* what is lent, and a copy to compare it with */
+};
+
 struct side {
     uint64_t base;
     uint32_t revision;
-    size_t n, words;
-    uint8_t *bytes, *kept; /* what is lent, and a copy to compare it with */
+    size_t words;
+    struct part manifest;
     uint32_t *room, *index;
 };
 
@@ -35,26 +41,42 @@ static void *memory(size_t n) {
     return p;
 }
 
+static void read_bytes(void *bytes, size_t n) {
+    if (fread(bytes, 1, n, stdin) != n) exit(2);
+}
+
+static struct part read_part(void) {
+    unsigned char head[4];
+    struct part p;
+    read_bytes(head, sizeof head);
+    p.n = number(head, 4);
+    p.bytes = memory(p.n);
+    p.kept = memory(p.n);
+    read_bytes(p.bytes, p.n);
+    memcpy(p.kept, p.bytes, p.n);
+    return p;
+}
+
 static struct side read_side(void) {
-    unsigned char head[20];
+    unsigned char head[16];
     struct side s;
-    if (fread(head, 1, sizeof head, stdin) != sizeof head) exit(2);
+    read_bytes(head, sizeof head);
     s.base = number(head, 8);
     s.revision = number(head + 8, 4);
     s.words = number(head + 12, 4);
-    s.n = number(head + 16, 4);
-    s.bytes = memory(s.n);
-    s.kept = memory(s.n);
-    if (fread(s.bytes, 1, s.n, stdin) != s.n) exit(2);
-    memcpy(s.kept, s.bytes, s.n);
+    s.manifest = read_part();
     s.room = memory((s.words + 2 * GUARD) * sizeof *s.room);
     s.index = s.room + GUARD;
     return s;
 }
 
+static void release_part(struct part *p) {
+    free(p->bytes);
+    free(p->kept);
+}
+
 static void release(struct side *s) {
-    free(s->bytes);
-    free(s->kept);
+    release_part(&s->manifest);
     free(s->room);
 }
 
@@ -66,6 +88,10 @@ static int all(const uint32_t *words, size_t n, uint32_t word) {
     for (size_t i = 0; i < n; i++)
         if (words[i] != word) return 0;
     return 1;
+}
+
+static int is_written(const struct part *p) {
+    return memcmp(p->bytes, p->kept, p->n) != 0;
 }
 
 static void print_answer(uint32_t result, const uint64_t *answer) {
@@ -85,7 +111,7 @@ static void print_side(const struct side *s) {
         printf(" other");
     }
     if (!all(s->room, GUARD, FILL) || !all(s->index + s->words, GUARD, FILL)) printf(" guard");
-    if (memcmp(s->bytes, s->kept, s->n)) printf(" bytes");
+    if (is_written(&s->manifest)) printf(" bytes");
 }
 
 typedef uint32_t call(const uint8_t *, size_t, uint64_t, uint32_t, uint32_t *, size_t, uint64_t *);
@@ -94,9 +120,20 @@ static void ask(call *function, const struct side *s) {
     uint64_t answer[16];
     memset(answer, 0xff, sizeof answer);
     fill(s);
-    uint32_t result = function(s->bytes, s->n, s->base, s->revision, s->index, s->words, answer);
+    uint32_t result = function(s->manifest.bytes, s->manifest.n, s->base, s->revision, s->index, s->words, answer);
     print_answer(result, answer);
     print_side(s);
+}
+
+static void ask_tail(const struct side *s, const struct part *tail) {
+    uint64_t answer[16];
+    memset(answer, 0xff, sizeof answer);
+    fill(s);
+    uint32_t result = handover_decode_tail(s->manifest.bytes, s->manifest.n, tail->bytes, tail->n, s->base, s->revision,
+                                           s->index, s->words, answer);
+    print_answer(result, answer);
+    print_side(s);
+    if (is_written(tail)) printf(" tail");
 }
 
 static void compare(const struct side *s, const struct side *t) {
@@ -104,8 +141,9 @@ static void compare(const struct side *s, const struct side *t) {
     memset(answer, 0xff, sizeof answer);
     fill(s);
     fill(t);
-    uint32_t result = handover_compare_manifests(s->bytes, s->n, s->base, s->revision, s->index, s->words, t->bytes,
-                                                 t->n, t->base, t->revision, t->index, t->words, answer);
+    uint32_t result = handover_compare_manifests(s->manifest.bytes, s->manifest.n, s->base, s->revision, s->index,
+                                                 s->words, t->manifest.bytes, t->manifest.n, t->base, t->revision,
+                                                 t->index, t->words, answer);
     print_answer(result, answer);
     print_side(s);
     print_side(t);
@@ -119,6 +157,10 @@ int main(void) {
             ask(handover_decode_manifest, &s);
             putchar('\t');
             ask(handover_units, &s);
+        } else if (kind == 't') {
+            struct part tail = read_part();
+            ask_tail(&s, &tail);
+            release_part(&tail);
         } else {
             struct side t = read_side();
             compare(&s, &t);

@@ -10,6 +10,7 @@ ghost use Rattle.questions.specs.Portability.{targetBoundClasses};
 ghost use Rattle.questions.specs.Answers.{judge, decodeManifest, decodedIndex};
 ghost use Rattle.questions.specs.Units.{unitsAnswer, unitsIndex};
 ghost use Rattle.verdict.specs.Answers.{compareManifests, targetIndex};
+ghost use Rattle.tail.specs.Answers.{decodeSnapshot, snapshotIndex};
 ghost use Rattle.state.specs.declared.Answer.the-variants.{Accepted};
 ghost use Rattle.handover_c.specs.Codes.{answerCode, answerWords, decodedCode, decodedWords, unitsCode, unitsWords, verdictCode, verdictWords};
 
@@ -75,6 +76,25 @@ pub extern "C" fn handover_decode_manifest(
     ensures { λ _. ⌜ now (index .exit) ≡ decodedIndex targetBoundClasses (now (bytes .entry)) revision (now (index .entry)) ⌝ }
 {
     let decoded = manifest::decode_manifest(bytes, base, revision, index);
+    let said = decoded.answer;
+    *answer = answer_words(said, decoded.starts);
+    answer_code(said)
+}
+
+#[no_mangle]
+pub extern "C" fn handover_decode_tail(
+    manifest: &[u8],
+    tail: &[u8],
+    base: u64,
+    revision: u32,
+    index: &mut [u32],
+    answer: &mut [u64; 16],
+) -> u32
+    ensures { λ r. ⌜ r ≡ decodedCode (decodeSnapshot targetBoundClasses (now (manifest .entry)) (now (tail .entry)) base revision (now (index .entry))) ⌝ }
+    ensures { λ _. ⌜ now (answer .exit) ≡ decodedWords (decodeSnapshot targetBoundClasses (now (manifest .entry)) (now (tail .entry)) base revision (now (index .entry))) ⌝ }
+    ensures { λ _. ⌜ now (index .exit) ≡ snapshotIndex targetBoundClasses (now (manifest .entry)) (now (tail .entry)) revision (now (index .entry)) ⌝ }
+{
+    let decoded = state_codec::decode_snapshot(manifest, tail, base, revision, index);
     let said = decoded.answer;
     *answer = answer_words(said, decoded.starts);
     answer_code(said)

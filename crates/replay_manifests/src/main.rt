@@ -3,6 +3,7 @@
 //
 //   BASE REVISION WORDS HEX                            a manifest, with an index of so many words:
 //                                                      accepted S1 .. S12, or refused QUESTION OFFSET
+//   BASE REVISION WORDS HEX HEX                        a manifest and its tail: the same
 //   BASE REVISION WORDS HEX BASE REVISION WORDS HEX    a snapshot's and a target's:
 //                                                      compatible, differs SECTION PART ENTRY INNER,
 //                                                      snapshot QUESTION OFFSET, or target QUESTION OFFSET,
@@ -184,6 +185,12 @@ fn decode(s: &[u8], call: Call, index: &mut [u32]) {
     print_decoded(decoded, index);
 }
 
+fn decode_tail(s: &[u8], call: Call, t: &[u8], index: &mut [u32]) {
+    fill(index);
+    let decoded = state_codec::decode_snapshot(s, t, call.base, call.revision, index);
+    print_decoded(decoded, index);
+}
+
 fn compare(s: &[u8], call: Call, index: &mut [u32], t: &[u8], call2: Call, index2: &mut [u32]) {
     fill(index);
     fill(index2);
@@ -200,7 +207,7 @@ fn compare(s: &[u8], call: Call, index: &mut [u32], t: &[u8], call2: Call, index
     print_verdict(verdict, index, index2);
 }
 
-// The answer to a line. There is none where it asks for more words than there are.
+// The answer to a line of four, five or eight words. There is none where it asks for a longer index than there is.
 fn answer(s: &[u8], room: &mut [u8], index: &mut [u32], room2: &mut [u8], index2: &mut [u32]) {
     let call = call_at(s, 0);
     let words = call.words;
@@ -211,8 +218,18 @@ fn answer(s: &[u8], room: &mut [u8], index: &mut [u32], room2: &mut [u8], index2
         return;
     }
     let n = bytes(s, call.hex, room);
-    let n2 = bytes(s, call2.hex, room2);
-    if next < s.len() {
+    if s.len() <= next {
+        decode(part(room, 0, n), call, &mut index[..words]);
+    } else if s.len() <= after_word(s, next) {
+        let tail = bytes(s, next, room2);
+        decode_tail(
+            part(room, 0, n),
+            call,
+            part(room2, 0, tail),
+            &mut index[..words],
+        );
+    } else {
+        let n2 = bytes(s, call2.hex, room2);
         compare(
             part(room, 0, n),
             call,
@@ -221,8 +238,6 @@ fn answer(s: &[u8], room: &mut [u8], index: &mut [u32], room2: &mut [u8], index2
             call2,
             &mut index2[..words2],
         );
-    } else {
-        decode(part(room, 0, n), call, &mut index[..words]);
     }
 }
 

@@ -103,7 +103,7 @@ module _ (m : El manifest) (h : Holds maxSnapshotBytes manifest m) (vs : List (E
   -- 9, of values
   values-ascend : Ascends (valueNames vs)
   unfolding valueKey
-  values-ascend = keys-ascend 12 connectorKey value vs g
+  values-ascend = keys-ascend (values .least) connectorKey value vs g
 
   -- as many values as connectors (33), each with a known key (34): their keys are the connectors', in their order
   pub keys-same : valueNames vs ≡ connectorNames (connectorsOf m)
