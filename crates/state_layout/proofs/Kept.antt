@@ -30,12 +30,9 @@ module _ {a b : ℕ} where
     pub kept-widen : {a′ b′ : ℕ} → a′ ≤ a → b ≤ b′ → Kept a′ b′ old new
     kept-widen {a′} {b′} p q = record { front = front-kept a′ p; back = back-kept b′ q; long = h .long }
 
-    -- words in front of those that may have changed, and behind them
+    -- words in front of those that may have changed
     pub span-kept : (from to : ℕ) → to ≤ a → span new from to ≡ span old from to
     span-kept from to p = sym (slice-run from to new) ∙ ap (λ (l : List ℕ). drop from l) (front-kept to p) ∙ slice-run from to old
-
-    pub span-behind : (from to : ℕ) → b ≤ from → span new from to ≡ span old from to
-    span-behind from to p = ap (λ (l : List ℕ). take (to - from) l) (back-kept from p)
 
 -- ---- one store
 pub set-kept : (a b : ℕ) (l : List ℕ) (i x : ℕ) → a ≤ i → i < b → Kept a b l (set l i x)

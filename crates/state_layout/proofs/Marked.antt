@@ -19,7 +19,7 @@ use Rattle.state_index.specs.Sort.{Kept}
 use Rattle.state_index.proofs.Lists.{filled}
 use Rattle.state_index.proofs.Search.{span-get}
 use Rattle.state_layout.specs.Marks.{isSet, keysAt, Keyed, marksOf, Marked}
-use Rattle.state_layout.proofs.Kept.{span-kept, span-behind, filled-kept, filled-span}
+use Rattle.state_layout.proofs.Kept.{span-kept, filled-kept, filled-span}
 
 -- ---- keys in a list
 pub get-map : {A B : Type 0} (f : A → B) (l : List A) (i : ℕ) (a : A) (b : B) → i < length l → getD (map f l) i b ≡ f (getD l i a)
@@ -98,6 +98,7 @@ module _ {e : Section} {s index : List ℕ} {from to m : ℕ} (k : Keyed e s ind
   key-found {w} h l i = rw (key-of w h l ∙ i) at (key-in (keysAt e s index from to) (w - from) (omega (arith, keys-long)))
 
 module _ {e : Section} {s old new : List ℕ} {from to m : ℕ} {a b : ℕ} (h : Kept a b old new) where
+  -- where its words lie in front of what may have changed
   pub keyed-kept : Keyed e s old from to m → to ≤ a → Keyed e s new from to m
   keyed-kept k p = record {
     ordered = rw (span-kept h from to p) (k .ordered);
@@ -105,19 +106,6 @@ module _ {e : Section} {s old new : List ℕ} {from to m : ℕ} {a b : ℕ} (h :
     forward = k .forward;
     below = k .below;
     fits = rw (h .long) (k .fits);
-  }
-
-  -- where the marks lie in front of what may have changed, too, and where they lie behind it
-  pub marked-kept : {seen : List (List ℕ)} → Marked e s old from to m seen → m + (to - from) ≤ a → Marked e s new from to m seen
-  marked-kept k p = record {
-    keyed = keyed-kept (k .keyed) (omega (arith, k .keyed .below));
-    set = rw (span-kept h from to (omega (arith, k .keyed .below)), span-kept h m (m + (to - from)) p) (k .set);
-  }
-
-  pub marked-behind : {seen : List (List ℕ)} → Marked e s old from to m seen → to ≤ a → b ≤ m → Marked e s new from to m seen
-  marked-behind k p q = record {
-    keyed = keyed-kept (k .keyed) p;
-    set = rw (span-kept h from to p, span-behind h m (m + (to - from)) q) (k .set);
   }
 
 -- the marks cleared: no key was met

@@ -26,10 +26,12 @@ values = section 12 (late wire) connectorKey value
 unfoldable pub words : Fmt
 words = list 8 8 free (number 8) done
 
+-- "u32 flags"
 unfoldable pub flags : Fmt
 flags = number 4
 
 -- ---- 33 to 36
+-- the key of a connector value, and the value itself
 unfoldable pub valueKey : Entry values → El connectorKey
 valueKey v = v .0
 
