@@ -7,10 +7,10 @@ ORACLE is the program built from the published Rust; its record 'm' (base, revis
 and gives `refused QUESTION OFFSET | ..` or `accepted WORDS CONNECTORS s1 .. s12 ..`, the section starts. Its record 'v'
 (two of these) runs compare_manifests and gives `compatible`, `differs SECTION PART ENTRY INNER`, or the refusal after
 `snapshot` or `target`. Its record 't' (the same as 'm', and a tail) runs decode_snapshot on them in a valid frame, and
-answers as 'm'. Its answers are taken as they are. Questions 1 and 2 are not the Rust's: the answers of lines with too
-few index words are from document 01's rule, and question 1, which needs more than 64 MiB, is tested by
-tools/bench/decoding.rs. crates/replay_manifests/src/main.rt has the meaning of the lines. Fixed seeds: a second run
-writes the same files.
+answers as 'm'; where the Rust's budget alone refuses it makes the frame longer. Its answers are taken as they are.
+Questions 1 and 2 are not the Rust's: the answers of lines with too few index words are from document 01's rule, and
+question 1, which needs more than 64 MiB, is tested by tools/bench/decoding.rs. crates/replay_manifests/src/main.rt has
+the meaning of the lines. Fixed seeds: a second run writes the same files.
 
 The inputs are those of tools/manifest_cases.py, for questions 3 to 10, of tools/question_cases.py, for 11 to 32, of
 tools/verdict_cases.py, pairs, and of tools/tail_cases.py, tails; a tail that the Rust refuses for its budget is left

@@ -86,9 +86,13 @@ module _ (limit : ℕ) (s : List ℕ) where
       rw (le-leb (at + w) (length s) h, ← p .0, e) q
 
   -- ---- what was read
+  -- bytes that were read spell what they were read as, to its end
+  pub spells : (f : Fmt) (at : ℕ) {v : El f} {n : ℕ} → read limit f s at ≡ got v n → (past f s at ≡ n) × (valueAt f s at ≡ v)
+  spells f at e = yielded (subst (Yields (λ v m. (past f s at ≡ m) × (valueAt f s at ≡ v))) e (value-got f at))
+
   pub well : (f : Fmt) (at : ℕ) {v : El f} {n : ℕ} → at ≤ length s → read limit f s at ≡ got v n → Well limit f s at
   well f at h e =
-      let p = yielded (subst (Yields (λ v m. (past f s at ≡ m) × (valueAt f s at ≡ v))) e (value-got f at)) in
+      let p = spells f at e in
       record { here = h; reads = rw (p .0, p .1) e }
 
   -- it ends within the bytes
@@ -100,7 +104,7 @@ module _ (limit : ℕ) (s : List ℕ) where
   well-then a b at h = yielded (subst (Yields (λ _ _. Well limit a s at × Well limit b s (past a s at))) (h .reads)
       (yields-bind (self (read limit a s at)) λ v m ev.
       yields-bind (self (read limit b s m)) λ w n ew.
-      let p = yielded (subst (Yields (λ v m. (past a s at ≡ m) × (valueAt a s at ≡ v))) ev (value-got a at)) in
+      let p = spells a at ev in
       let first : Well limit a s at = well a at (h .here) ev in
       let e : read limit b s (past a s at) ≡ got w n = rw (p .0) ew in
       this (first, well b (past a s at) (well-past a at first) e)))
@@ -130,7 +134,7 @@ module _ (limit : ℕ) (s : List ℕ) where
         yields-ask (afterEntry u (span s (from u at) m) ks) _ _ λ _.
         let e : read limit (k then r) s at ≡ got (kv, rv) z = rw (ek, er) in
         let here : Well limit (k then r) s at = well (k then r) at h e in
-        let p = yielded (subst (Yields (λ v m. (past (k then r) s at ≡ m) × (valueAt (k then r) s at ≡ v))) e (value-got (k then r) at)) in
+        let p = spells (k then r) at e in
         yields-bind (each-got n z (rw (← p .0) (well-past (k then r) at here)) (kept u (span s (from u at) m) ks)) λ vs y t.
         this (here, rw (p .0) t)
 

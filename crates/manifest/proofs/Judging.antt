@@ -1,5 +1,5 @@
 -- What reading and then asking come to: questions 1 to 32.
-use Prim.Native.Nat.{ℕ, zero, suc, _+_, _≤_}
+use Prim.Native.Nat.{ℕ, _+_, _≤_}
 use native.Mathlib.Omega.{arith}
 use mathlib.Core.Path.{_≡_, refl, sym, ap, _∙_, subst}
 use mathlib.Core.List.{List, [], _∷_, _++_, map}
@@ -7,10 +7,10 @@ use lib.ListN.{length, take, length-append}
 use lib.Seq.{take-at, take-take}
 use borrow.Author.Tests.{le-leb}
 use Rattle.state.specs.Bytes.{AreBytes}
-use Rattle.state.specs.Outcome.{got, refused, stepOf}
+use Rattle.state.specs.Outcome.{got, refused, heed}
 use Rattle.state.specs.declared.Step.{Step}
 use Rattle.state.specs.declared.Step.the-variants as step
-use Rattle.state.proofs.Outcome.{Yields, yielded, step-refused, step-yields}
+use Rattle.state.proofs.Outcome.{heed-no, step-refused, step-yields}
 use Rattle.state_wire.specs.Fields.{maxSnapshotBytes}
 use Rattle.format.specs.Format.{El}
 use Rattle.format.specs.Manifest.{Section, entry, counted, lists, sequence, portability, manifest}
@@ -18,11 +18,11 @@ use Rattle.format.specs.Places.{countAt, numberAt, starts, sectionStarts, entry
 use Rattle.format.specs.Reading.{readManifest}
 use Rattle.format.specs.Values.{valueAt, Well}
 use Rattle.format.proofs.Places.{end-got, starts-length}
-use Rattle.format.proofs.Values.{values-length, value-got, well, well-then, well-list}
+use Rattle.format.proofs.Values.{values-length, spells, well, well-then, well-list}
 use Rattle.questions.specs.Sets.{sum}
 use Rattle.questions.specs.Portability.{targetBoundClasses}
 use Rattle.questions.specs.Order.{firstFailing}
-use Rattle.questions.specs.Answers.{judged, judge}
+use Rattle.questions.specs.Answers.{judge}
 use Rattle.questions.proofs.Accepted.{Passed, yields-passed}
 use Rattle.questions.proofs.Numbers.{late-failing}
 use Rattle.state_layout.specs.Tables.{manifestOf, counts, tableStart, roomStart, Tabled, Leaves}
@@ -63,7 +63,7 @@ module _ {s old new : List ℕ} {n : ℕ} (bytes : AreBytes s) {r : Step} (reads
   passed = step-yields (yields-passed s (length old)) (reads .is) next
 
   spelled : (past manifest s 0 ≡ length s) × (manifestOf s ≡ passed .0)
-  spelled = yielded (subst (Yields (λ v m. (past manifest s 0 ≡ m) × (valueAt manifest s 0 ≡ v))) (passed .2 .reads) (value-got limit s manifest 0))
+  spelled = spells limit s manifest 0 (passed .2 .reads)
 
   -- what was read is the manifest that the bytes spell
   pub read-is : readManifest limit s (length old) ≡ got (manifestOf s) n
@@ -105,23 +105,19 @@ module _ {s old new : List ℕ} (revision : ℕ) {r : Step} (reads : Reads s r o
       }
 
   module _ (bytes : AreBytes s) {n : ℕ} (next : r ≡ step.Next n) {q : ℕ} (asks : q ≡ firstFailing targetBoundClasses revision (manifestOf s)) {last : List ℕ} (leaves : Leaves s new last) where
-    judge-is : judge targetBoundClasses revision s (length old) ≡ judged q (manifestOf s) n
+    judge-is : judge targetBoundClasses revision s (length old) ≡ heed q n (got (manifestOf s) n)
     unfolding judge
     judge-is = rw (read-is bytes reads next, asks)
 
     -- refused by a question over the whole
     pub judge-no : (q ≡ 0 → ⊥) → Judges s revision (step.Refused q n) old last
     judge-no h = record {
-      is = rw judge-is (says q h);
+      is = rw judge-is (heed-no q n _ h);
       tabled = λ k i. let z : _≡_ {A = ℕ} 0 1 = cc in absurd (omega arith);
       untouched = λ x i. let z : q ≡ 2 = cc i in absurd (omega (arith, z, late));
       long = leaves .long ∙ reads .long;
     }
       where
-        says : (q : ℕ) → (q ≡ 0 → ⊥) → step.Refused q n ≡ stepOf (judged q (manifestOf s) n)
-        says zero h = absurd (h refl)
-        says (suc q) h = refl
-
         late : 11 ≤ q
         late = rw asks (late-failing targetBoundClasses revision (manifestOf s) (λ e. h (asks ∙ e)))
 

@@ -1,5 +1,5 @@
 -- What acceptance tells: of the bytes and the index, of the manifest that was read, and of the questions over the whole.
-use Prim.Native.Nat.{ℕ, zero, suc, _≤_}
+use Prim.Native.Nat.{ℕ, _≤_}
 use native.Mathlib.Omega.{arith}
 use mathlib.Core.Path.{_≡_, refl, subst}
 use mathlib.Core.List.{List}
@@ -9,7 +9,7 @@ use borrow.Author.Tests.{leb-true, eqb-true, eq-eqb}
 use Rattle.state.specs.Bytes.{AreBytes}
 use Rattle.state.specs.Outcome.{Outcome, got, refused}
 use Rattle.state.specs.declared.Answer.the-variants.{Accepted}
-use Rattle.state.proofs.Outcome.{Yields, this, nothing, yielded, yields-ask, yields-bind}
+use Rattle.state.proofs.Outcome.{Yields, this, yielded, yields-ask, yields-heed, yields-bind}
 use Rattle.state_wire.specs.Fields.{maxSnapshotBytes}
 use Rattle.format.specs.Format.{El, read, encode}
 use Rattle.format.specs.Admits.{Holds}
@@ -18,14 +18,14 @@ use Rattle.format.specs.Places.{past}
 use Rattle.format.specs.Reading.{indexWords, readSections, readManifest}
 use Rattle.format.specs.Values.{valueAt}
 use Rattle.format.proofs.Canonical.{canonical}
-use Rattle.format.proofs.Values.{self, value-got}
+use Rattle.format.proofs.Values.{self, spells}
 use Rattle.questions.specs.Sets.{first}
 use Rattle.questions.specs.Declarations.{declarations}
 use Rattle.questions.specs.References.{references, boundaries}
 use Rattle.questions.specs.Slots.{slots}
 use Rattle.questions.specs.Inputs.{inputDefinitionsHold}
 use Rattle.questions.specs.Order.{answers, firstFailing}
-use Rattle.questions.specs.Answers.{judged, judge, decodedOf, decodeManifest}
+use Rattle.questions.specs.Answers.{judge, decodedOf, decodeManifest}
 use Rattle.questions.proofs.Chains.{groups-none}
 
 -- ---- questions 1 to 10
@@ -57,11 +57,6 @@ module _ (s : List ℕ) (w : ℕ) where
       (c .1, c .2)
 
 -- ---- questions 1 to 32
--- what holds if no question over the whole says no
-pub yields-judged : {P : El manifest → ℕ → Type 0} (q : ℕ) (m : El manifest) (n : ℕ) → (q ≡ 0 → P m n) → Yields P (judged q m n)
-yields-judged zero m n h = this (h refl)
-yields-judged (suc q) m n h = nothing
-
 -- what is answered Accepted was read
 pub decoded-got : (base : ℕ) (s : List ℕ) (o : Outcome (El manifest)) → decodedOf base s o .answer ≡ Accepted → (m : El manifest) × (n : ℕ) × (o ≡ got m n)
 decoded-got base s (got m n) h = (m, n, refl)
@@ -78,12 +73,11 @@ module _ (bound : List (List ℕ)) (revision : ℕ) where
     pub judge-tells : {m : El manifest} {n : ℕ} → judge bound revision s w ≡ got m n → Judged m n
     unfolding judge
     judge-tells e = yielded (subst (Yields Judged) e
-        (yields-bind (yields-passed s w) λ m n p. yields-judged (firstFailing bound revision m) m n λ i. record { passed = p; none = i }))
+        (yields-bind (yields-passed s w) λ m n p. yields-heed (firstFailing bound revision m) n λ i. this (record { passed = p; none = i })))
 
     -- it is the manifest that the bytes spell, to their end
     pub judge-spells : {m : El manifest} {n : ℕ} → judge bound revision s w ≡ got m n → (past manifest s 0 ≡ length s) × (valueAt manifest s 0 ≡ m)
-    judge-spells e =
-        yielded (subst (Yields (λ v k. (past manifest s 0 ≡ k) × (valueAt manifest s 0 ≡ v))) (judge-tells e .passed .reads) (value-got maxSnapshotBytes s manifest 0))
+    judge-spells e = spells maxSnapshotBytes s manifest 0 (judge-tells e .passed .reads)
 
   -- none says no among those over the declarations
   pub declarations-say-yes : (m : El manifest) → firstFailing bound revision m ≡ 0 → first (declarations m) ≡ 0

@@ -1,10 +1,10 @@
 -- The whole answer of a call on a manifest, and what it leaves of the lent index.
-use Prim.Native.Nat.{ℕ, zero, suc, _-_}
+use Prim.Native.Nat.{ℕ, _-_}
 use mathlib.Core.List.{List, _++_}
 use mathlib.Core.Bool.{cond}
 use lib.ListN.{length, replicate}
 use lib.Dec.{leb, eqb}
-use Rattle.state.specs.Outcome.{Outcome, got, refused, bind, offsetOf}
+use Rattle.state.specs.Outcome.{Outcome, got, refused, bind, heed, offsetOf}
 use Rattle.state.specs.declared.Answer.the-variants as answer
 use Rattle.state.specs.declared.Starts.{Starts}
 use Rattle.state.specs.declared.Decoded.{Decoded}
@@ -15,14 +15,9 @@ use Rattle.format.specs.Places.{manifestStarts}
 use Rattle.format.specs.Reading.{readManifest}
 use Rattle.questions.specs.Order.{firstFailing}
 
--- a question over the whole that says no is refused at the manifest's end: "Then over the whole, offset base + n"
-abbrev pub judged : (question : ℕ) → El manifest → (n : ℕ) → Outcome (El manifest)
-judged zero m n = got m n
-judged (suc q) m n = refused (suc q) n
-
--- questions 1 to 32 of bytes and of an index that has so many words
+-- questions 1 to 32 of bytes and of an index that has so many words; 11 to 32 stand at the manifest's end: "Then over the whole, offset base + n"
 unfoldable pub judge : (bound : List (List ℕ)) → (revision : ℕ) → List ℕ → (index : ℕ) → Outcome (El manifest)
-judge bound revision s w = bind (readManifest maxSnapshotBytes s w) (λ m n. judged (firstFailing bound revision m) m n)
+judge bound revision s w = bind (readManifest maxSnapshotBytes s w) (λ m n. heed (firstFailing bound revision m) n (got m n))
 
 -- "Before reading .. (offset 0)"; after that "Offsets are base plus position"
 abbrev pub offsetAt : (base question position : ℕ) → ℕ

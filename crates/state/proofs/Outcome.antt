@@ -1,9 +1,9 @@
 -- What an answer of code tells of the reading that it is the answer of.
-use Prim.Native.Nat.{ℕ}
+use Prim.Native.Nat.{ℕ, zero, suc}
 use mathlib.Core.Path.{_≡_, refl, sym, ap, subst, _∙_}
 use mathlib.Core.Bool.{Bool, true, false}
 use native.Mathlib.Omega.{arith}
-use Rattle.state.specs.Outcome.{Outcome, got, refused, bind, ask, stepOf, fieldOf, stepOfField}
+use Rattle.state.specs.Outcome.{Outcome, got, refused, bind, ask, heed, stepOf, fieldOf, stepOfField}
 use Rattle.state.specs.declared.Step.{Step}
 use Rattle.state.specs.declared.Step.the-variants as step
 use Rattle.state.specs.declared.Field.{Field}
@@ -40,6 +40,11 @@ pub step-ask : {A : Type 0} (b : Bool) (q p : ℕ) (o : Outcome A) → stepOf (a
 step-ask true q p o = refl
 step-ask false q p o = refl
 
+-- an answer that is not 0 is refused
+pub heed-no : {A : Type 0} (q p : ℕ) (o : Outcome A) → (q ≡ 0 → ⊥) → step.Refused q p ≡ stepOf (heed q p o)
+heed-no zero p o h = absurd (h refl)
+heed-no (suc q) p o h = refl
+
 module _ {A B : Type 0} where
   pub step-bind : (o : Outcome A) (k : ℕ → Step) (f : A → ℕ → Outcome B) → ((a : A) (n : ℕ) → stepOf (f a n) ≡ k n) → stepOf (bind o f) ≡ onward (stepOf o) k
   step-bind (got a n) k f h = h a n
@@ -69,6 +74,10 @@ module _ {A : Type 0} {P : A → ℕ → Type 0} where
   pub yields-ask : (b : Bool) (q p : ℕ) {o : Outcome A} → (b ≡ true → Yields P o) → Yields P (ask b q p o)
   yields-ask true q p h = h refl
   yields-ask false q p h = nothing
+
+  pub yields-heed : (q p : ℕ) {o : Outcome A} → (q ≡ 0 → Yields P o) → Yields P (heed q p o)
+  yields-heed zero p h = h refl
+  yields-heed (suc q) p h = nothing
 
 module _ {A B : Type 0} {P : A → ℕ → Type 0} {Q : B → ℕ → Type 0} where
   pub yields-bind : {o : Outcome A} {k : A → ℕ → Outcome B} → Yields P o → ((a : A) (m : ℕ) → P a m → Yields Q (k a m)) → Yields Q (bind o k)

@@ -1,5 +1,5 @@
 -- What a reading comes to, and what each type of answer says of it.
-use Prim.Native.Nat.{ℕ, _+_, _-_, _^_, min}
+use Prim.Native.Nat.{ℕ, zero, suc, _+_, _-_, _^_, min}
 use mathlib.Core.Bool.{Bool, true, false}
 use Rattle.state.specs.declared.Step.{Step}
 use Rattle.state.specs.declared.Step.the-variants as step
@@ -24,6 +24,11 @@ module _ {A : Type 0} where
   abbrev pub ask : Bool → (q p : ℕ) → Outcome A → Outcome A
   ask true q p k = k
   ask false q p k = refused q p
+
+  -- the same of an answer that is 0 for yes and a question's number for no
+  abbrev pub heed : (answer p : ℕ) → Outcome A → Outcome A
+  heed zero p k = k
+  heed (suc q) p k = refused (suc q) p
 
   -- the answer of code that walks over a value
   abbrev pub stepOf : Outcome A → Step

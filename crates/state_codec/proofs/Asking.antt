@@ -30,24 +30,22 @@ abbrev valuesFrom : List ℕ → (n p : ℕ) → List (Entry values)
 valuesFrom t n p = valuesAt (valueAt connectorKey t) (valueAt value t) (past connectorKey t) (past value t) n p
 
 -- the whole answer is that of the values left, as many as connectors from the word w on
-pub record Asking (answer : Entry values → ℕ) (t : List ℕ) (from to w p : ℕ) : Type 0 where
+pub record Asking (answer : Entry values → ℕ) (t : List ℕ) (to w p : ℕ) : Type 0 where
   pub is : first (map answer (valueAt (counted values) t 0)) ≡ first (map answer (valuesFrom t (to - w) p))
   pub well : WellEach maxSnapshotBytes (entry values) t (to - w) p
-  pub since : from ≤ w
 
-module _ (answer : Entry values → ℕ) (t : List ℕ) {from to : ℕ} where
+module _ (answer : Entry values → ℕ) (t : List ℕ) {to : ℕ} where
   -- before the first value
-  pub asking-start : Well maxSnapshotBytes (counted values) t 0 → numberAt 4 t 0 ≡ to - from → {p : ℕ} → p ≡ min (0 + 4) (length t) → Asking answer t from to from p
+  pub asking-start : Well maxSnapshotBytes (counted values) t 0 → {from : ℕ} → numberAt 4 t 0 ≡ to - from → {p : ℕ} → p ≡ min (0 + 4) (length t) → Asking answer t to from p
   unfolding valueAt
-  asking-start h n {p} e =
+  asking-start h n e =
       let l = well-list maxSnapshotBytes t (late wire) connectorKey value 4 12 0 h in
       record {
         is = rw (← n, e);
         well = rw (← n, e ∙ min-eq-left (l .0)) (l .1);
-        since = omega arith;
       }
 
-  module _ {w p : ℕ} (a : Asking answer t from to w p) where
+  module _ {w p : ℕ} (a : Asking answer t to w p) where
     -- behind the last, none said no
     pub asking-end : to ≤ w → 0 ≡ first (map answer (valueAt (counted values) t 0))
     unfolding first
@@ -74,12 +72,11 @@ module _ (answer : Entry values → ℕ) (t : List ℕ) {from to : ℕ} where
         asking-no n = one-says-no _ q n ∙ sym turned
 
         -- one that says yes leaves the rest
-        pub asking-next : q ≡ 0 → {k p′ : ℕ} → k ≡ past connectorKey t p → p′ ≡ past value t k → Asking answer t from to (w + 1) p′
+        pub asking-next : q ≡ 0 → {k p′ : ℕ} → k ≡ past connectorKey t p → p′ ≡ past value t k → Asking answer t to (w + 1) p′
         unfolding past
         asking-next z i j = record {
           is = turned ∙ rw (j, i) (none-says-no _ z);
           well = rw (j, i) (left .1);
-          since = omega (arith, a .since);
         }
 
 -- ---- of the manifest
@@ -101,7 +98,8 @@ module _ {s index : List ℕ} (a : Asked s index) {classes end from to : ℕ} (e
   connectors-are : connectorsAt s index from to ≡ connectorsOf (manifestOf s)
   connectors-are = rw (e4, e5) (table-connectors (a .tabled) .values)
 
-  pub connectors-count : to - from ≡ length (connectorsOf (manifestOf s))
+  -- they are so many
+  connectors-count : to - from ≡ length (connectorsOf (manifestOf s))
   connectors-count = omega (arith, rows (manifestOf s), e4, e5)
 
   -- the table of connectors ends behind its start

@@ -75,20 +75,19 @@ module _ (s t old : List ℕ) (base revision : ℕ) where
           let o : judge targetBoundClasses revision s (length old) ≡ refused q p = step-refused _ (j .is) e in
           (i ∙ rw (short, o), k ∙ rw (short, o) (refusal-leaves j e))
 
-      module _ {n : ℕ} (e : r ≡ step.Next n) where
-        module _ {x : Step} (ex : x ≡ stepOf (readTail (manifestOf s) t)) where
-          -- refused with its tail
-          pub ends-tail : {q p o : ℕ} → x ≡ step.Refused q p → o ≡ offsetOf base (length s) → {d : Decoded} {new : List ℕ} → d ≡ refusal o q p → new ≡ cond (eqb q 2) mid (replicate (length mid) 0) → Ends d new
-          unfolding decodeSnapshot snapshotIndex judgeSnapshot
-          ends-tail {q} {p} h io i k =
-              let u : readTail (manifestOf s) t ≡ refused q p = step-refused _ ex h in
-              let l : eqb q 2 ≡ false = ne-eqb q 2 (λ z. absurd (omega (arith, tail-late (manifestOf s) t u))) in
-              (i ∙ rw (io, short, judged j e, u) (refusal-on base (length s) q p), k ∙ rw (short, judged j e, u, l, j .long))
+      module _ {n : ℕ} (e : r ≡ step.Next n) {x : Step} (ex : x ≡ stepOf (readTail (manifestOf s) t)) where
+        -- refused with its tail
+        pub ends-tail : {q p o : ℕ} → x ≡ step.Refused q p → o ≡ offsetOf base (length s) → {d : Decoded} {new : List ℕ} → d ≡ refusal o q p → new ≡ cond (eqb q 2) mid (replicate (length mid) 0) → Ends d new
+        unfolding decodeSnapshot snapshotIndex judgeSnapshot
+        ends-tail {q} {p} h io i k =
+            let u : readTail (manifestOf s) t ≡ refused q p = step-refused _ ex h in
+            let l : eqb q 2 ≡ false = ne-eqb q 2 (λ z. absurd (omega (arith, tail-late (manifestOf s) t u))) in
+            (i ∙ rw (io, short, judged j e, u) (refusal-on base (length s) q p), k ∙ rw (short, judged j e, u, l, j .long))
 
-          -- accepted with its tail
-          pub ends-accepted : {k : ℕ} → x ≡ step.Next k → {d : Decoded} {new : List ℕ} → d ≡ acceptance (take 12 mid) → new ≡ take 12 mid ++ replicate (length mid - 12) 0 → Ends d new
-          unfolding decodeSnapshot snapshotIndex judgeSnapshot
-          ends-accepted h i k =
-              let y = step-yields (always (readTail (manifestOf s) t)) ex h in
-              let f : take 12 mid ≡ manifestStarts maxSnapshotBytes s = tabled-starts (j .tabled n e) .1 in
-              (i ∙ rw (short, judged j e, y .1, f), k ∙ rw (short, judged j e, y .1, f, j .long))
+        -- accepted with its tail
+        pub ends-accepted : {k : ℕ} → x ≡ step.Next k → {d : Decoded} {new : List ℕ} → d ≡ acceptance (take 12 mid) → new ≡ take 12 mid ++ replicate (length mid - 12) 0 → Ends d new
+        unfolding decodeSnapshot snapshotIndex judgeSnapshot
+        ends-accepted h i k =
+            let y = step-yields (always (readTail (manifestOf s) t)) ex h in
+            let f : take 12 mid ≡ manifestStarts maxSnapshotBytes s = tabled-starts (j .tabled n e) .1 in
+            (i ∙ rw (short, judged j e, y .1, f), k ∙ rw (short, judged j e, y .1, f, j .long))

@@ -1,14 +1,14 @@
 -- The tail, part by part: what the code's answers come to.
-use Prim.Native.Nat.{ℕ, zero, suc, _<_}
+use Prim.Native.Nat.{ℕ, _<_}
 use native.Mathlib.Omega.{arith}
-use mathlib.Core.Path.{_≡_, refl, sym, _∙_}
+use mathlib.Core.Path.{_≡_, sym, _∙_}
 use mathlib.Core.Bool.{true}
 use mathlib.Core.List.{List}
 use lib.ListN.{length, getD}
-use Rattle.state.specs.Outcome.{Outcome, got, stepOf}
+use Rattle.state.specs.Outcome.{got, stepOf}
 use Rattle.state.specs.declared.Step.{Step}
 use Rattle.state.specs.declared.Step.the-variants as step
-use Rattle.state.proofs.Outcome.{step-refused, step-yields, step-keeps, always}
+use Rattle.state.proofs.Outcome.{heed-no, step-refused, step-yields, step-keeps, always}
 use Rattle.state_wire.specs.Fields.{maxSnapshotBytes}
 use Rattle.format.specs.Format.{Fmt, read, scan}
 use Rattle.format.specs.Manifest.{counted, stateSlots}
@@ -18,23 +18,18 @@ use Rattle.format.proofs.Values.{value-got, well}
 use Rattle.questions.specs.Sets.{all}
 use Rattle.questions.specs.Slots.{endFits}
 use Rattle.questions.specs.Units.{wordTotal}
-use Rattle.tail.specs.Tail.{values, valuesAnswer, heed, readWords, readFlags, readTail}
+use Rattle.tail.specs.Tail.{values, valuesAnswer, readWords, readFlags, readTail}
 use Rattle.state_layout.specs.Tables.{manifestOf}
+use Rattle.state_layout.proofs.Tables.{limit}
 use Rattle.manifest.proofs.Judging.{tabled-starts}
 use Rattle.state_manifest.specs.Accepted.{Accepted}
 use Rattle.state_manifest.proofs.Sections.{slots-there}
 use Rattle.state_codec.specs.Listed.{Asked}
-use Rattle.state_codec.proofs.Words.{limit}
 
 -- what was read is the value that the bytes spell
 read-spelled : (f : Fmt) (t : List ℕ) (at : ℕ) {r : Step} {p : ℕ} → r ≡ scan limit f t at → r ≡ step.Next p → read limit f t at ≡ got (valueAt f t at) p
 unfolding scan
 read-spelled f t at e i = let y = step-yields (value-got limit t f at) e i in rw (y .2 .1) (y .1)
-
--- an answer that is not 0 is refused
-heed-no : {A : Type 0} (q p : ℕ) (o : Outcome A) → (q ≡ 0 → ⊥) → step.Refused q p ≡ stepOf (heed q p o)
-heed-no zero p o h = absurd (h refl)
-heed-no (suc q) p o h = refl
 
 -- ---- the slots of the manifest
 module _ {s index : List ℕ} (a : Asked s index) where

@@ -38,6 +38,7 @@ use Rattle.state_codec.specs.Listed.{connectorsAt, Listed}
 abbrev nameAt : List ℕ → ℕ → List ℕ
 nameAt s q = encode connectorKey (connectorKeyOf (valueAt (entry connectors) s q))
 
+-- the names of those at positions
 names-at : (s ps : List ℕ) → connectorNames (map (valueAt (entry connectors) s) ps) ≡ map (nameAt s) ps
 unfolding connectorNames
 names-at s ps = map-map (λ c. encode connectorKey (connectorKeyOf c)) (valueAt (entry connectors) s) ps

@@ -16,10 +16,8 @@ use Rattle.state.proofs.Outcome.{value-got, value-refused, step-yields, Yields,
 use Rattle.state_wire.specs.Fields.{readSpan, readNumber, readCount, maxSnapshotBytes}
 use Rattle.format.specs.Format.{El, free, done, number, entries, read, scan, scanEntries}
 use Rattle.format.proofs.Entries.{scan-entries, forgets, counted-fits}
+use Rattle.state_layout.proofs.Tables.{limit}
 use Rattle.tail.specs.Tail.{words, flags, readWords, readFlags}
-
-abbrev pub limit : ℕ
-limit = maxSnapshotBytes
 
 -- words whose bytes are there are passed over
 words-passed : (t : List ℕ) (n at : ℕ) → at + 8 * n ≤ length t → scanEntries limit free (number 8) done t n at [] ≡ step.Next (at + 8 * n)

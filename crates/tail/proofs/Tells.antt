@@ -7,9 +7,9 @@ use mathlib.Core.List.{List}
 use lib.ListN.{length}
 use lib.Dec.{leb, eqb}
 use borrow.Author.Tests.{eqb-true}
-use Rattle.state.specs.Outcome.{Outcome, got, refused}
+use Rattle.state.specs.Outcome.{Outcome, got, refused, heed}
 use Rattle.state.specs.declared.Answer.the-variants.{Accepted}
-use Rattle.state.proofs.Outcome.{Yields, this, nothing, yielded, yields-so, yields-ask, yields-bind}
+use Rattle.state.proofs.Outcome.{Yields, this, nothing, yielded, yields-so, yields-ask, yields-heed, yields-bind}
 use Rattle.state_wire.specs.Fields.{maxSnapshotBytes}
 use Rattle.format.specs.Format.{El, read}
 use Rattle.format.specs.Manifest.{counted, enums, connectors, manifest}
@@ -21,7 +21,7 @@ use Rattle.questions.specs.Answers.{judge}
 use Rattle.questions.specs.Units.{wordTotal}
 use Rattle.questions.proofs.Numbers.{Of, unless-of, first-of, all-of, of-inside}
 use Rattle.questions.proofs.Accepted.{judge-tells, decoded-got}
-use Rattle.tail.specs.Tail.{values, words, flags, valueAnswer, valuesAnswer, heed, readWords, readFlags, readTail}
+use Rattle.tail.specs.Tail.{values, words, flags, valueAnswer, valuesAnswer, readWords, readFlags, readTail}
 use Rattle.tail.specs.Answers.{behind, judgeSnapshot, decodeSnapshot}
 
 -- ---- which questions a tail is asked: none before 3
@@ -85,11 +85,6 @@ pub record TailRead (m : El manifest) (t : List ℕ) (n : ℕ) : Type 0 where
   pub total : wordCount ws ≡ wordTotal (slotsOf m)
   pub flags-read : read maxSnapshotBytes flags t q ≡ got noFlags n
   pub whole : n ≡ length t
-
--- what holds if an answer is 0
-yields-heed : {A : Type 0} {P : A → ℕ → Type 0} (q p : ℕ) {o : Outcome A} → (q ≡ 0 → Yields P o) → Yields P (heed q p o)
-yields-heed zero p h = h refl
-yields-heed (suc q) p h = nothing
 
 -- words that were read are as many as the total
 yields-words : (total : ℕ) (t : List ℕ) (at : ℕ) → Yields (λ ws n. (read maxSnapshotBytes words t at ≡ got ws n) × (wordCount ws ≡ total)) (readWords total t at)

@@ -1,10 +1,10 @@
 -- Document 01, "The tail is what follows a manifest in a snapshot: u32 count and values, u64 count and words, u32 flags", and questions 33 to 38.
-use Prim.Native.Nat.{ℕ, zero, suc}
+use Prim.Native.Nat.{ℕ}
 use mathlib.Core.List.{List, [], _∷_, map}
 use mathlib.Core.Bool.{Bool, _&&_}
 use lib.ListN.{length}
 use lib.Dec.{eqb}
-use Rattle.state.specs.Outcome.{Outcome, got, refused, bind, ask}
+use Rattle.state.specs.Outcome.{Outcome, got, bind, ask, heed}
 use Rattle.state_wire.specs.Fields.{maxSnapshotBytes}
 use Rattle.format.specs.Lists.{same}
 use Rattle.format.specs.Format.{wire, free, late, Fmt, El, done, number, list, read, encode}
@@ -52,12 +52,6 @@ unfoldable pub valuesAnswer : List (Entry enums) → List (Entry connectors) →
 valuesAnswer es cs vs = first (33 unless (eqb (length vs) (length cs)) ∷ first (map (valueAnswer es cs) vs) ∷ [])
 
 -- ---- the tail of a manifest, by positions from the tail's first byte
-module _ {A : Type 0} where
-  -- an answer that is not 0 is refused at p
-  abbrev pub heed : (answer p : ℕ) → Outcome A → Outcome A
-  heed zero p k = k
-  heed (suc q) p k = refused (suc q) p
-
 -- "At the word count's start, after the words are read: equal to the slots' total? 37"
 unfoldable pub readWords : (total : ℕ) → List ℕ → ℕ → Outcome (El words)
 unfolding words

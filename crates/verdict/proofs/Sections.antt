@@ -1,7 +1,7 @@
 -- The section that the verdict names is where the bytes first differ; it names none where they are the same.
 use Prim.Native.Nat.{ℕ, suc, _+_, _-_, _≤_, _<_}
 use native.Mathlib.Omega.{arith}
-use mathlib.Core.Path.{_≡_, refl, sym, ap, ap₂, _∙_, subst}
+use mathlib.Core.Path.{_≡_, refl, sym, ap, ap₂, _∙_}
 use mathlib.Core.Bool.{true}
 use mathlib.Core.List.{List, [], _∷_, _++_}
 use lib.ListN.{length, getD, take, drop}
@@ -12,7 +12,6 @@ use Rattle.state.specs.Outcome.{got}
 use Rattle.state.specs.declared.Verdict.{Verdict}
 use Rattle.state.specs.declared.Verdict.the-variants.{Compatible, Differs, SnapshotRefused, TargetRefused}
 use Rattle.state.proofs.Bytes.{Part}
-use Rattle.state.proofs.Outcome.{Yields, yielded}
 use Rattle.state_wire.specs.Fields.{maxSnapshotBytes}
 use Rattle.format.specs.Format.{Fmt, El, read, encode}
 use Rattle.format.specs.Admits.{Holds}
@@ -21,7 +20,7 @@ use Rattle.format.specs.Manifest.{sections, sequence, manifest}
 use Rattle.format.specs.Places.{endAt, past, sectionStarts, manifestStarts, sectionStart}
 use Rattle.format.specs.Values.{valueAt, Well}
 use Rattle.format.proofs.Sound.{Stands, read-sound}
-use Rattle.format.proofs.Values.{value-got, well, well-then}
+use Rattle.format.proofs.Values.{spells, well, well-then}
 use Rattle.format.proofs.Places.{end-got}
 use Rattle.format.proofs.Apart.{Apart, written-apart}
 use Rattle.format.proofs.Canonical.{manifest-honest}
@@ -207,7 +206,7 @@ module _ (s t : List ℕ) where
 manifest-left : (s : List ℕ) {m : El manifest} → read maxSnapshotBytes manifest s 0 ≡ got m (length s) → (valueAt manifest s 0 ≡ m) × Left maxSnapshotBytes s sections 0
 unfolding manifest
 manifest-left s r =
-    let v = yielded (subst (Yields (λ v n. (past manifest s 0 ≡ n) × (valueAt manifest s 0 ≡ v))) r (value-got maxSnapshotBytes s manifest 0)) in
+    let v = spells maxSnapshotBytes s manifest 0 r in
     (v .1, record { well = well maxSnapshotBytes s manifest 0 (omega arith) r; ends = v .0 })
 
 -- the verdict on two of them is right

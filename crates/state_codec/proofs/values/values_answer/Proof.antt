@@ -9,7 +9,7 @@ use Rattle.state_codec.proofs.values.values_answer.Statement.{statement
 use Rattle.state_codec.proofs.values.values_answer.Tie as tie
 
 abbrev Inv-loop : tie.InvT-loop
-Inv-loop s index classes end from to t p₀ w₀ p w = Asking (valueAnswer (classesAt s index classes end) (connectorsAt s index from to)) t from to w p
+Inv-loop s index classes end from to t p₀ w₀ p w = Asking (valueAnswer (classesAt s index classes end) (connectorsAt s index from to)) t to w p
 
 abbrev μ-loop : tie.MeasureT-loop
 μ-loop s index classes end from to t p₀ w₀ p w = to - w
