@@ -6,7 +6,7 @@ use std::process::Command;
 use std::time::Instant;
 
 mod plants;
-use plants::{class, plant, plant_and_tail};
+use plants::{class, plant, plant_and_tail, Shape};
 
 extern "C" {
     fn handover_decode_manifest(
@@ -114,7 +114,7 @@ fn row(name: &str, rounds: usize, bytes: &[u8], oracle: &[String]) {
 /// Two plants read and compared: equal ones, and ones that differ in the last parameter of the last block that has any.
 /// The Rust's time is twice its reading and the comparison of equal manifests, which goes through every field.
 fn verdict_row(size: usize, rounds: usize, oracle: &[String]) {
-    let bytes = plant(size << 20);
+    let bytes = plant(size << 20, Shape::default());
     let mut other = bytes.clone();
     let last = bytes.windows(10).rposition(|w| w == b"Types.Mode").expect("a parameter") + 10;
     other[last] = 3 - other[last];
@@ -182,8 +182,16 @@ fn main() {
     print!("\n| decode_manifest, questions 1 to 32 | MB | ms | MB/s |");
     print!("{}", if oracle.is_empty() { "" } else { " Rust, ms | ratio | its answer |" });
     println!("\n|---|---|---|---|{}", if oracle.is_empty() { "" } else { "---|---|---|" });
-    for (size, rounds) in [(1, 200), (16, 20), (60, 7)] {
-        row(&format!("plant, {size} MiB"), rounds, &plant(size << 20), &oracle);
+    let plain = Shape::default();
+    for (name, size, shape, rounds) in [
+        ("plant", 1, plain, 200),
+        ("plant", 16, plain, 20),
+        ("schedule and order shuffled", 16, Shape { shuffled: true, ..plain }, 20),
+        ("names of 140 bytes", 36, Shape { after: 115, ..plain }, 10),
+        ("names of 1,000 bytes, which differ early", 60, Shape { after: 975, ..plain }, 7),
+        ("names of 1,000 bytes, which differ late", 60, Shape { before: 975, ..plain }, 7),
+    ] {
+        row(&format!("{name}, {size} MiB"), rounds, &plant(size << 20, shape), &oracle);
     }
     row("a class of 2,000,000 members, sorted", 5, &class(2_000_000, false), &oracle);
     row("the same, shuffled", 5, &class(2_000_000, true), &oracle);

@@ -8,6 +8,9 @@ impl Dice {
         self.0 = self.0.wrapping_mul(6364136223846793005).wrapping_add(1442695040888963407);
         (self.0 >> 33) as usize % n
     }
+    fn shuffle<T>(&mut self, things: &mut [T]) {
+        (1..things.len()).for_each(|i| things.swap(i, self.below(i + 1)));
+    }
 }
 
 /// The fields of the wire.
@@ -51,10 +54,21 @@ struct Port {
     number: usize,
 }
 
-/// Block names of 10 to 40 bytes, all different, in the order of their keys: by length first.
-fn names(count: usize, dice: &mut Dice) -> Vec<String> {
+/// What a plant is like: letters put before and after each block's name, and whether schedule and connector order are
+/// shuffled; else they are in the order of the keys.
+#[derive(Clone, Copy, Default)]
+pub struct Shape {
+    pub before: usize,
+    pub after: usize,
+    pub shuffled: bool,
+}
+
+/// Block names of 10 to 40 bytes and the shape's, all different, in the order of their keys: by length first.
+fn names(count: usize, shape: Shape, dice: &mut Dice) -> Vec<String> {
     let place = "plant.building.storey.zone.coils";
-    let mut names: Vec<String> = (0..count).map(|i| format!("{}/{i:07}", &place[..2 + dice.below(31)])).collect();
+    let (before, after) = ("x".repeat(shape.before), "x".repeat(shape.after));
+    let name = |i| format!("{before}{}/{i:07}{after}", &place[..2 + dice.below(31)]);
+    let mut names: Vec<String> = (0..count).map(name).collect();
     names.sort_by(|a, b| (a.len(), a).cmp(&(b.len(), b)));
     names
 }
@@ -69,12 +83,14 @@ struct Plant {
     ports: Vec<Port>,
     links: Vec<(Port, Port)>,
     outside: Vec<Port>,
+    schedule: Vec<usize>,
+    order: Vec<Port>,
 }
 
 impl Plant {
-    fn new(count: usize) -> Plant {
+    fn new(count: usize, shape: Shape) -> Plant {
         let dice = &mut Dice(count as u64);
-        let names = names(count, dice);
+        let names = names(count, shape, dice);
         let (mut words, mut params, mut ports, mut links, mut outside) = (vec![], vec![], vec![], vec![], vec![]);
         for block in 0..count {
             words.push([0, 0, 1, 2, 4][dice.below(5)]);
@@ -90,7 +106,12 @@ impl Plant {
             ports.push(Port { block, out: true, number: 0 });
         }
         links.sort();
-        Plant { names, words, params, ports, links, outside }
+        let (mut schedule, mut order): (Vec<usize>, _) = ((0..count).collect(), ports.clone());
+        if shape.shuffled {
+            dice.shuffle(&mut schedule);
+            dice.shuffle(&mut order);
+        }
+        Plant { names, words, params, ports, links, outside, schedule, order }
     }
 
     fn path(&self, p: Port) -> String {
@@ -143,8 +164,8 @@ impl Plant {
         w.list(&blocks, |w, i| self.block(w, *i));
         w.list(&self.ports, |w, p| self.connector(w, *p));
         w.list(&self.links, |w, l| [l.0, l.1].into_iter().for_each(|p| port(w, p)));
-        w.list(&blocks, |w, i| w.block(&self.names[*i]));
-        w.list(&self.ports, |w, p| port(w, *p));
+        w.list(&self.schedule, |w, i| w.block(&self.names[*i]));
+        w.list(&self.order, |w, p| port(w, *p));
         w.list(&self.ports, |w, p| [*p, *p].into_iter().for_each(|p| port(w, p)));
         self.slots(w);
         w.list(&self.outside, |w, p| port(w, *p));
@@ -188,27 +209,28 @@ impl Plant {
     }
 }
 
-fn sized(size: usize) -> Plant {
-    let each = Plant::new(10_000).bytes().len() as f64 / 10_000.0;
-    Plant::new((size as f64 / each * 0.995) as usize)
+fn sized(size: usize, shape: Shape) -> Plant {
+    let each = Plant::new(10_000, shape).bytes().len() as f64 / 10_000.0;
+    Plant::new((size as f64 / each * 0.995) as usize, shape)
 }
 
 /// A plant of about so many bytes, at most.
-pub fn plant(size: usize) -> Vec<u8> {
-    sized(size).bytes()
+pub fn plant(size: usize, shape: Shape) -> Vec<u8> {
+    sized(size, shape).bytes()
 }
 
 /// The same with its tail.
 pub fn plant_and_tail(size: usize) -> (Vec<u8>, Vec<u8>) {
-    let plant = sized(size);
+    let plant = sized(size, Shape::default());
     (plant.bytes(), plant.tail())
 }
 
 /// One class of so many members, in order or shuffled, and a block that names it.
 pub fn class(count: usize, shuffled: bool) -> Vec<u8> {
     let mut members: Vec<usize> = (0..count).collect();
-    let dice = &mut Dice(1);
-    (1..if shuffled { count } else { 0 }).for_each(|i| members.swap(i, dice.below(i + 1)));
+    if shuffled {
+        Dice(1).shuffle(&mut members);
+    }
     let w = &mut Wire::default();
     w.tag(0);
     w.u32(1);

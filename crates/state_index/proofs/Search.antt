@@ -15,6 +15,7 @@ use Rattle.order.specs.declared.Compared.{Compared}
 use Rattle.order.specs.Lex.{lexCompare, compared}
 use Rattle.order.proofs.Laws.{turned, lex-turned, lex-equal-iff}
 use Rattle.format.specs.Lists.{same, isIn}
+use Rattle.format.proofs.Lists.{same-true}
 use Rattle.format.specs.Manifest.{Section}
 use Rattle.format.specs.Places.{keyAt}
 use Rattle.state_index.specs.declared.Found.the-variants.{At, Nothing}
@@ -51,6 +52,11 @@ pub compared-with : (e : Section) (s index key : List ℕ) (w : ℕ) {p : ℕ} {
     → p ≡ getD index w 0 → x ≡ keyAt e s p → c ≡ compared key x → c .order ≡ o → lexCompare key (keyAt e s (getD index w 0)) ≡ o
 compared-with e s index key w i j k l = rw (← i, ← j, ← l, k)
 
+-- bytes that are the same as those of the entry of a word
+pub same-with : (e : Section) (s index key : List ℕ) (w : ℕ) {p : ℕ} {x : List ℕ} {b : Bool}
+    → p ≡ getD index w 0 → x ≡ keyAt e s p → b ≡ same x key → b ≡ true → keyAt e s (getD index w 0) ≡ key
+same-with e s index key w i j k l = rw (← i, ← j) (same-true _ key (sym k ∙ l))
+
 module _ (e : Section) (s index : List ℕ) (from to : ℕ) (key : List ℕ) where
   -- the key of a word's entry
   abbrev of : ℕ → List ℕ
@@ -66,11 +72,15 @@ module _ (e : Section) (s index : List ℕ) (from to : ℕ) (key : List ℕ) whe
   pub between-all : Between from to
   between-all = record { least = omega arith; most = omega arith; below = λ j h i. absurd (omega arith); above = λ j h i. absurd (omega arith) }
 
-  pub finds-at : {w : ℕ} → from ≤ w → w < to → lexCompare key (of w) ≡ Equal → Finds e s index from to key (At w)
-  finds-at {w} h k q = record {
-    at = λ v i. let j : w ≡ v = cc in (omega arith, omega arith, rw (← j) (sym (lex-equal-iff key (of w) .0 q)));
+  -- a word whose entry has the key, by whatever way it was come by
+  pub finds-key : {w : ℕ} → (from ≤ w) × (w < to) × (of w ≡ key) → Finds e s index from to key (At w)
+  finds-key {w} h = record {
+    at = λ v i. let j : w ≡ v = cc in rw (← j) h;
     nothing = λ i. let z : _≡_ {A = ℕ} 0 1 = cc in absurd (omega arith);
   }
+
+  pub finds-at : {w : ℕ} → from ≤ w → w < to → lexCompare key (of w) ≡ Equal → Finds e s index from to key (At w)
+  finds-at {w} h k q = finds-key (h, k, sym (lex-equal-iff key (of w) .0 q))
 
   pub finds-nothing : {low high : ℕ} → Between low high → high ≤ low → Finds e s index from to key Nothing
   finds-nothing {low} {high} b h = record {

@@ -1,8 +1,11 @@
 // The lent index: words that are positions of the bytes. Clearing, sorting and looking up.
+pub mod hints;
 pub mod keys;
 mod merge;
 mod sift;
 
+use hints::find_hinted;
+use hints::has_key;
 use keys::block_key_end;
 use keys::connector_key_end;
 use merge::rising;
@@ -152,19 +155,29 @@ pub fn word_at(index: &[u32], i: usize) -> usize
     index[i] as usize
 }
 
-// The word to try next: the hint while it lies between, then the one in the middle.
-fn probe(low: usize, high: usize, hint: usize) -> usize
-    requires { ⌜ low < high ⌝ }
-    ensures { λ r. ⌜ (low ≤ r) × (r < high) ⌝ }
+// Halves the words from..to, whose entries stand in order, until it has the key's or none is left.
+fn binary_search(s: &[u8], section: u8, index: &[u32], from: usize, to: usize, key: &[u8]) -> Found
+    requires { ⌜ to ≤ length (now index) ⌝ }
+    requires { ⌜ Ordered (keyAtMost (numbered section) (now s)) (span (now index) from to) ⌝ }
+    ensures { λ r. ⌜ Finds (numbered section) (now (s .entry)) (now (index .entry)) from to (now (key .entry)) r ⌝ }
 {
-    if low <= hint && hint < high {
-        hint
-    } else {
-        low + (high - low) / 2
+    let mut low = from;
+    let mut high = to;
+    while low < high {
+        let w = low + (high - low) / 2;
+        let c = order::compare(key, key_part(s, section, word_at(index, w)));
+        let order = c.order;
+        match order {
+            Order::Less => high = w,
+            Order::Equal => return Found::At(w),
+            Order::Greater => low = w + 1,
+        }
     }
+    Found::Nothing
 }
 
-// Which of the words from..to, whose entries stand in order, has the key; the word `hint` is tried first.
+// Which of the words from..to, whose entries stand in order, has the key: the word `hint` is tried first, then those that the hints at the
+// end of the index name, and then all are searched.
 pub fn find(
     s: &[u8],
     section: u8,
@@ -178,17 +191,12 @@ pub fn find(
     requires { ⌜ Ordered (keyAtMost (numbered section) (now s)) (span (now index) from to) ⌝ }
     ensures { λ r. ⌜ Finds (numbered section) (now (s .entry)) (now (index .entry)) from to (now (key .entry)) r ⌝ }
 {
-    let mut low = from;
-    let mut high = to;
-    while low < high {
-        let w = probe(low, high, hint);
-        let c = order::compare(key, key_part(s, section, word_at(index, w)));
-        let order = c.order;
-        match order {
-            Order::Less => high = w,
-            Order::Equal => return Found::At(w),
-            Order::Greater => low = w + 1,
-        }
+    if has_key(s, section, index, from, to, key, hint) {
+        return Found::At(hint);
     }
-    Found::Nothing
+    let w = find_hinted(s, section, index, from, to, key);
+    if w < to {
+        return Found::At(w);
+    }
+    binary_search(s, section, index, from, to, key)
 }

@@ -31,7 +31,7 @@ fn roll(t: &[u8]) -> u64
 }
 
 // The two halves of a number, multiplied so that the upper bits depend on every bit.
-fn mix(n: u64) -> u64
+pub(crate) fn mix(n: u64) -> u64
     ensures { λ r. ⌜ r ≡ spread n ⌝ }
 {
     n % 4294967296 * 1327217885 + n / 4294967296 * 1123411259

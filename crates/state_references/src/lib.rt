@@ -6,6 +6,7 @@ use entries::all_hold;
 use sets::all_new;
 use sets::texts_differ;
 use state::Section;
+use state_layout::hints::put_hints;
 use state_layout::marks::all_marked;
 use state_layout::table_start;
 ghost use mathlib.Core.Path.{_≡_};
@@ -82,7 +83,7 @@ fn names_differ(s: &[u8], index: &mut [u32]) -> bool
 }
 
 // Questions 17 to 20: 0, or the number of the first that says no.
-pub fn validate_references(s: &[u8], index: &mut [u32]) -> u8
+fn first_no(s: &[u8], index: &mut [u32]) -> u8
     requires { ⌜ Tabled (now s) (now index) ⌝ }
     ensures { λ r. ⌜ r ≡ first (references (manifestOf (now (s .entry)))) ⌝ }
     ensures { λ _. ⌜ Leaves (now (s .entry)) (now (index .entry)) (now (index .exit)) ⌝ }
@@ -103,6 +104,17 @@ pub fn validate_references(s: &[u8], index: &mut [u32]) -> u8
         return 20;
     }
     0
+}
+
+// The same, with hints of both tables in which keys are looked up; the connectors' serve 25 and 26 as well.
+pub fn validate_references(s: &[u8], index: &mut [u32]) -> u8
+    requires { ⌜ Tabled (now s) (now index) ⌝ }
+    ensures { λ r. ⌜ r ≡ first (references (manifestOf (now (s .entry)))) ⌝ }
+    ensures { λ _. ⌜ Leaves (now (s .entry)) (now (index .entry)) (now (index .exit)) ⌝ }
+{
+    put_hints(s, index, Section::BLOCKS);
+    put_hints(s, index, Section::CONNECTORS);
+    first_no(s, index)
 }
 
 // Questions 25 and 26.
