@@ -1,7 +1,8 @@
 //! Judges large manifests, questions 1 to 32, and some with their tails, 33 to 38, compares pairs of them, and prints how
 //! fast: decoding [ORACLE FOLDER]
 //! With the oracle built from the published Rust, its decode_manifest, decode_snapshot and compare_manifests are timed on
-//! the same bytes, by way of files in FOLDER. A row is the best of some rounds on one thread; bytes and indexes are in memory.
+//! the same bytes in the same run, by way of files in FOLDER. A figure is the best of as many rounds on one thread on
+//! either side; bytes and indexes are in memory, and were written before.
 use std::process::Command;
 use std::time::Instant;
 
@@ -77,16 +78,17 @@ fn index_words(n: usize) -> usize {
 }
 
 /// What the oracle prints of a manifest, and of its tail where there is one.
-fn rust_bench(oracle: &str, folder: &str, bytes: &[u8], tail: Option<&[u8]>) -> String {
+fn rust_bench(oracle: &[String], rounds: usize, bytes: &[u8], tail: Option<&[u8]>) -> Option<String> {
+    let [program, folder] = oracle else { return None };
     let (file, behind) = (format!("{folder}/manifest"), format!("{folder}/tail"));
     std::fs::write(&file, bytes).expect("write the manifest");
     std::fs::write(&behind, tail.unwrap_or(b"")).expect("write the tail");
     let second = if tail.is_some() { &behind } else { "-" };
-    let out = Command::new(oracle).args(["bench", &file, second, "5"]).output().expect("run the oracle").stdout;
-    String::from_utf8_lossy(&out).to_string()
+    let run = Command::new(program).args(["bench", &file, second, &rounds.to_string()]).output();
+    Some(String::from_utf8_lossy(&run.expect("run the oracle").stdout).to_string())
 }
 
-/// What that says of one function: seconds of the best of five runs, and its answer.
+/// What that says of one function: seconds of the best round, and its answer.
 fn rust_line(out: &str, function: &str) -> (f64, String) {
     let line = out.lines().find(|l| l.starts_with(function)).unwrap_or("");
     let ms = line.split("wall ").nth(1).and_then(|l| l.split(' ').next()).and_then(|n| n.parse::<f64>().ok());
@@ -94,19 +96,27 @@ fn rust_line(out: &str, function: &str) -> (f64, String) {
     (ms.unwrap_or(0.0) / 1e3, answer.to_string())
 }
 
-fn row(name: &str, rounds: usize, bytes: &[u8], oracle: &[String]) {
-    let mut index = vec![0u32; index_words(bytes.len())];
-    let mut best = f64::MAX;
-    for _ in 0..rounds {
+/// The best of some rounds, in seconds.
+fn best(rounds: usize, mut call: impl FnMut()) -> f64 {
+    (0..rounds).fold(f64::MAX, |best, _| {
         let start = Instant::now();
-        assert_eq!(decode(bytes, &mut index), (0, 0));
-        best = best.min(start.elapsed().as_secs_f64());
-    }
-    let rate = |t: f64| bytes.len() as f64 / t / 1e6;
-    print!("| {name} | {:.1} | {:.1} | {:.0} |", bytes.len() as f64 / 1e6, best * 1e3, rate(best));
-    if let [program, folder] = oracle {
-        let (rust, answer) = rust_line(&rust_bench(program, folder, bytes, None), "decode_manifest");
-        print!(" {:.1} | {:.1} | {answer} |", rust * 1e3, rust / best);
+        call();
+        best.min(start.elapsed().as_secs_f64())
+    })
+}
+
+/// A manifest judged; `each` also tells the time for a byte.
+fn row(name: &str, rounds: usize, bytes: &[u8], each: bool, oracle: &[String]) {
+    let mut index = vec![7u32; index_words(bytes.len())];
+    let time = best(rounds, || assert_eq!(decode(bytes, &mut index), (0, 0)));
+    let n = bytes.len() as f64;
+    let speed = if each { format!("{:.2}", time * 1e9 / n) } else { format!("{:.0}", n / time / 1e6) };
+    print!("| {name} | {:.1} | {:.2} | {speed} |", n / 1e6, time * 1e3);
+    if let Some(out) = rust_bench(oracle, rounds, bytes, None) {
+        match rust_line(&out, "decode_manifest") {
+            (rust, answer) if answer.starts_with("accepted") => print!(" {:.1} | {:.1} |", rust * 1e3, rust / time),
+            _ => print!(" refused for its budget | |"),
+        }
     }
     println!();
 }
@@ -118,18 +128,11 @@ fn verdict_row(size: usize, rounds: usize, oracle: &[String]) {
     let mut other = bytes.clone();
     let last = bytes.windows(10).rposition(|w| w == b"Types.Mode").expect("a parameter") + 10;
     other[last] = 3 - other[last];
-    let (mut i, mut j) = (vec![0u32; index_words(bytes.len())], vec![0u32; index_words(bytes.len())]);
-    let mut time = |t: &[u8], verdict| {
-        (0..rounds).fold(f64::MAX, |best, _| {
-            let start = Instant::now();
-            assert_eq!(compare(&bytes, &mut i, t, &mut j), verdict);
-            best.min(start.elapsed().as_secs_f64())
-        })
-    };
+    let (mut i, mut j) = (vec![7u32; index_words(bytes.len())], vec![7u32; index_words(bytes.len())]);
+    let mut time = |t: &[u8], verdict| best(rounds, || assert_eq!(compare(&bytes, &mut i, t, &mut j), verdict));
     let (same, differs) = (time(&bytes, (0, 0)), time(&other, (3, 7)));
     print!("| two plants, {size} MiB each | {:.1} | {:.1} |", same * 1e3, differs * 1e3);
-    if let [program, folder] = oracle {
-        let out = rust_bench(program, folder, &bytes, None);
+    if let Some(out) = rust_bench(oracle, rounds, &bytes, None) {
         let of = |function| rust_line(&out, function).0;
         let rust = 2.0 * of("decode_manifest") + of("compare_manifests");
         print!(" {:.1} | {:.1} | {:.1} |", rust * 1e3, rust / same, rust / differs);
@@ -141,20 +144,15 @@ fn verdict_row(size: usize, rounds: usize, oracle: &[String]) {
 /// two is taken off.
 fn tail_row(size: usize, rounds: usize, oracle: &[String]) {
     let (bytes, tail) = plant_and_tail(size << 20);
-    let mut index = vec![0u32; index_words(bytes.len())];
-    let best = (0..rounds).fold(f64::MAX, |best, _| {
-        let start = Instant::now();
-        assert_eq!(decode_tail(&bytes, &tail, &mut index), (0, 0));
-        best.min(start.elapsed().as_secs_f64())
-    });
+    let mut index = vec![7u32; index_words(bytes.len())];
+    let time = best(rounds, || assert_eq!(decode_tail(&bytes, &tail, &mut index), (0, 0)));
     let mb = |n: usize| n as f64 / 1e6;
-    print!("| plant, {size} MiB, and its tail | {:.1} | {:.1} | {:.1} |", mb(bytes.len()), mb(tail.len()), best * 1e3);
-    if let [program, folder] = oracle {
-        let out = rust_bench(program, folder, &bytes, Some(&tail));
-        let (all, answer) = rust_line(&out, "decode_snapshot");
+    print!("| plant, {size} MiB, and its tail | {:.1} | {:.1} | {:.1} |", mb(bytes.len()), mb(tail.len()), time * 1e3);
+    if let Some(out) = rust_bench(oracle, rounds, &bytes, Some(&tail)) {
+        let (all, _) = rust_line(&out, "decode_snapshot");
         let hashed = 1.0 + bytes.len() as f64 / (bytes.len() + tail.len()) as f64;
         let rust = all - hashed * rust_line(&out, "fnv-128 alone").0;
-        print!(" {:.1} | {:.1} | {answer} |", rust * 1e3, rust / best);
+        print!(" {:.1} | {:.1} |", rust * 1e3, rust / time);
     }
     println!();
 }
@@ -176,35 +174,42 @@ fn too_much_or_too_little() {
     assert!(index.iter().all(|w| *w == 0));
 }
 
+/// The head of a table: the columns, and those that the oracle adds.
+fn head(columns: &str, rust: &str, oracle: &[String]) {
+    let columns = if oracle.is_empty() { columns.to_string() } else { format!("{columns}{rust}") };
+    println!("\n{columns}\n|{}", "---|".repeat(columns.matches('|').count() - 1));
+}
+
 fn main() {
     let oracle: Vec<String> = std::env::args().skip(1).collect();
     too_much_or_too_little();
-    print!("\n| decode_manifest, questions 1 to 32 | MB | ms | MB/s |");
-    print!("{}", if oracle.is_empty() { "" } else { " Rust, ms | ratio | its answer |" });
-    println!("\n|---|---|---|---|{}", if oracle.is_empty() { "" } else { "---|---|---|" });
-    let plain = Shape::default();
+    let (plain, ratio) = (Shape::default(), " Rust, ms | ratio |");
+    head("| decode_manifest, questions 1 to 32 | MB | ms | MB/s |", ratio, &oracle);
     for (name, size, shape, rounds) in [
-        ("plant", 1, plain, 200),
+        ("plant", 1, plain, 100),
         ("plant", 16, plain, 20),
         ("schedule and order shuffled", 16, Shape { shuffled: true, ..plain }, 20),
         ("names of 140 bytes", 36, Shape { after: 115, ..plain }, 10),
-        ("names of 1,000 bytes, which differ early", 60, Shape { after: 975, ..plain }, 7),
-        ("names of 1,000 bytes, which differ late", 60, Shape { before: 975, ..plain }, 7),
+        ("names of 1,000 bytes that differ early", 60, Shape { after: 975, ..plain }, 10),
+        ("names of 1,000 bytes that differ late", 60, Shape { before: 975, ..plain }, 10),
     ] {
-        row(&format!("{name}, {size} MiB"), rounds, &plant(size << 20, shape), &oracle);
+        row(&format!("{name}, {size} MiB"), rounds, &plant(size << 20, shape), false, &oracle);
     }
-    row("a class of 2,000,000 members, sorted", 5, &class(2_000_000, false), &oracle);
-    row("the same, shuffled", 5, &class(2_000_000, true), &oracle);
-    print!("\n| decode_tail, questions 1 to 38 | manifest, MB | tail, MB | ms |");
-    print!("{}", if oracle.is_empty() { "" } else { " Rust, ms | ratio | its answer |" });
-    println!("\n|---|---|---|---|{}", if oracle.is_empty() { "" } else { "---|---|---|" });
+    row("a class of 2,000,000 members, sorted", 5, &class(2_000_000, false), false, &oracle);
+    row("the same, shuffled", 5, &class(2_000_000, true), false, &oracle);
+    head("| decode_tail, questions 1 to 38 | manifest, MB | tail, MB | ms |", ratio, &oracle);
     for (size, rounds) in [(1, 100), (16, 20)] {
         tail_row(size, rounds, &oracle);
     }
-    print!("\n| compare_manifests, both read and compared | compatible, ms | differing in section 3, ms |");
-    print!("{}", if oracle.is_empty() { "" } else { " Rust, equal, ms | ratio | ratio |" });
-    println!("\n|---|---|---|{}", if oracle.is_empty() { "" } else { "---|---|---|" });
-    for (size, rounds) in [(1, 100), (16, 10)] {
+    let ratios = " Rust, equal, ms | ratio | ratio |";
+    head("| compare_manifests, both read and compared | compatible, ms | differing in section 3, ms |", ratios, &oracle);
+    for (size, rounds) in [(1, 50), (16, 10)] {
         verdict_row(size, rounds, &oracle);
+    }
+    head("| as a plant grows | MB | ms | ns a byte |", ratio, &oracle);
+    for (name, shape) in [("plant", plain), ("shuffled", Shape { shuffled: true, ..plain })] {
+        for size in [1, 2, 4, 8, 16, 32, 64] {
+            row(&format!("{name}, {size} MiB"), 10, &plant(size << 20, shape), true, &oracle);
+        }
     }
 }

@@ -25,9 +25,9 @@ FROM_ONE = 12  # cases that are made of one manifest
 
 
 def some_plant(dice):
-    """Mostly small; one in a hundred has many blocks, one long texts."""
+    """Mostly small; one in a hundred has many blocks, so that look-ups are by hints, one long texts."""
     rare = dice.randrange(100)
-    blocks = 20 if rare == 0 else dice.choice((0, 1, 1, 1, 2, 2, 2, 3, 3, 4, 6))
+    blocks = dice.choice((20, 20, 60, 200)) if rare == 0 else dice.choice((0, 1, 1, 1, 2, 2, 2, 3, 3, 4, 6))
     longest = 300 if rare == 1 else dice.choice((0, 1, 2, 5, 20))
     return plant(dice, blocks, dice.choice((0, 1, 1, 2, 3)), longest, dice.random() < 0.2)
 

@@ -1,11 +1,14 @@
-// Text and key order for programs in C and Rust, without the manifest reader: see include/archive.h.
+// Text, strings and key order for programs in C and Rust, without the manifest reader: see include/archive.h.
 use order::Order;
 use state_key_order::KeysCompared;
+use state_reader::StringRead;
 ghost use mathlib.Core.Path.{_≡_};
 ghost use Rattle.text.specs.Valid.{validUpTo};
 ghost use Rattle.order.specs.Lex.{lexCompare, agreeing};
+ghost use Rattle.state_wire.specs.Fields.{readText};
+ghost use Rattle.state_reader.specs.Read.{stringRead};
 ghost use Rattle.state_key_order.specs.Compare.{blockKeysCompared, connectorKeysCompared};
-ghost use Rattle.archive_c.specs.Codes.{orderCode, keysCode, keysWords};
+ghost use Rattle.archive_c.specs.Codes.{orderCode, stringCode, stringWords, keysCode, keysWords};
 
 fn code_of(order: Order) -> u32
     ensures { λ r. ⌜ r ≡ orderCode order ⌝ }
@@ -14,6 +17,24 @@ fn code_of(order: Order) -> u32
         Order::Less => 0,
         Order::Equal => 1,
         Order::Greater => 2,
+    }
+}
+
+fn string_code(read: StringRead) -> u32
+    ensures { λ r. ⌜ r ≡ stringCode read ⌝ }
+{
+    match read {
+        StringRead::Text(_, _) => 0,
+        StringRead::Refused(question, _) => question as u32,
+    }
+}
+
+fn string_words(read: StringRead) -> [u64; 2]
+    ensures { λ r. ⌜ r ≡ stringWords read ⌝ }
+{
+    match read {
+        StringRead::Text(start, end) => [start as u64, end as u64],
+        StringRead::Refused(_, offset) => [offset, 0],
     }
 }
 
@@ -42,6 +63,20 @@ pub extern "C" fn archive_valid_up_to(bytes: &[u8]) -> usize
     ensures { λ r. ⌜ r ≡ validUpTo (now (bytes .entry)) ⌝ }
 {
     text::valid_up_to(bytes)
+}
+
+#[no_mangle]
+pub extern "C" fn archive_read_string(
+    bytes: &[u8],
+    base: u64,
+    limit: usize,
+    answer: &mut [u64; 2],
+) -> u32
+    ensures { λ r. ⌜ (r ≡ stringCode (stringRead base 0 (readText limit (now (bytes .entry)) 0))) × (now (answer .exit) ≡ stringWords (stringRead base 0 (readText limit (now (bytes .entry)) 0))) ⌝ }
+{
+    let read = state_reader::read_string(bytes, base, limit);
+    *answer = string_words(read);
+    string_code(read)
 }
 
 #[no_mangle]

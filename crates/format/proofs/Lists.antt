@@ -43,6 +43,11 @@ same-sym x y = go (same x y) refl
     go true e = rw (same-true x y e, same-refl y)
     go false e = sym (same-apart y x (λ i. same-differs x y e (sym i)))
 
+-- a test that says yes just of equal strings
+pub same-told : (x y : List ℕ) (b : Bool) → (b ≡ true → x ≡ y) × (x ≡ y → b ≡ true) → b ≡ same x y
+same-told x y true h = sym (same-of x y (h .0 refl))
+same-told x y false h = sym (same-apart x y (λ e. true≢false (sym (h .1 e))))
+
 -- strings of different lengths differ
 pub same-lengths : (x y : List ℕ) → (length x ≡ length y → ⊥) → same x y ≡ false
 same-lengths x y h = same-apart x y (λ e. h (ap length e))

@@ -1,5 +1,6 @@
 // The order of two runs of bytes, and how many bytes agree before it is decided.
 ghost use mathlib.Core.Path.{_≡_};
+ghost use mathlib.Core.Bool.{true};
 ghost use Prim.Native.Nat.{_+_, _<_, _≤_, min};
 ghost use lib.ListN.{length, take};
 ghost use Rattle.order.specs.Lex.{compared};
@@ -23,10 +24,10 @@ fn least(x: usize, y: usize) -> usize
     if x < y { x } else { y }
 }
 
-// 0 only where n bytes more are the same. Where n is a constant, a few vector instructions: counted from 0, so that the number of turns is known.
+// 0 just where n bytes more are the same. Where n is a constant, a few vector instructions: counted from 0, so that the number of turns is known.
 fn differ(a: &[u8], b: &[u8], at: usize, n: usize) -> u8
     requires { ⌜ (at + n ≤ length (now a)) × (at + n ≤ length (now b)) × (take at (now a) ≡ take at (now b)) ⌝ }
-    ensures { λ r. ⌜ (r ≡ 0 → take (at + n) (now (a .entry)) ≡ take (at + n) (now (b .entry))) ⌝ }
+    ensures { λ r. ⌜ (r ≡ 0 → take (at + n) (now (a .entry)) ≡ take (at + n) (now (b .entry))) × (take (at + n) (now (a .entry)) ≡ take (at + n) (now (b .entry)) → r ≡ 0) ⌝ }
 {
     let mut d = 0u8;
     for i in 0..n {
@@ -52,6 +53,36 @@ fn same_blocks(a: &[u8], b: &[u8], from: usize, n: usize) -> usize
         at += n;
     }
     at
+}
+
+// Whether two byte strings are the same. Where fewer than a block are left, the last block decides, which the one before it overlaps.
+pub fn same(a: &[u8], b: &[u8]) -> bool
+    ensures { λ r. ⌜ (r ≡ true → now (a .entry) ≡ now (b .entry)) × (now (a .entry) ≡ now (b .entry) → r ≡ true) ⌝ }
+{
+    let end = a.len();
+    if b.len() != end {
+        return false;
+    }
+    let mut i = same_blocks(a, b, 0, 64);
+    i = same_blocks(a, b, i, 16);
+    if 16 <= end {
+        if end - 16 <= i {
+            return differ(a, b, end - 16, 16) == 0;
+        }
+    }
+    i = same_blocks(a, b, i, 8);
+    if 8 <= end {
+        if end - 8 <= i {
+            return differ(a, b, end - 8, 8) == 0;
+        }
+    }
+    while i < end {
+        if a[i] != b[i] {
+            return false;
+        }
+        i += 1;
+    }
+    true
 }
 
 // Blocks of 64, 16 and 8 bytes as far as they are the same, then byte by byte to the first difference.

@@ -42,26 +42,11 @@ pub fn precedes(left: &[u8], right: &[u8]) -> bool
     is_less(order)
 }
 
-fn is_equal(order: Order) -> bool
-    ensures { λ r. ⌜ r ≡ isEqual order ⌝ }
-{
-    match order {
-        Order::Less => false,
-        Order::Equal => true,
-        Order::Greater => false,
-    }
-}
-
 // Whether two byte strings are the same.
 pub fn same_bytes(left: &[u8], right: &[u8]) -> bool
     ensures { λ r. ⌜ r ≡ same (now (left .entry)) (now (right .entry)) ⌝ }
 {
-    if left.len() != right.len() {
-        return false;
-    }
-    let c = order::compare(left, right);
-    let order = c.order;
-    is_equal(order)
+    order::same(left, right)
 }
 
 // Where the block key at a position ends.

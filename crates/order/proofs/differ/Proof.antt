@@ -1,21 +1,21 @@
 use lib.ListN.{take}
 use native.Mathlib.Nat.{add-zero, add-assoc}
-use Rattle.order.proofs.Steps.{one-more}
+use Rattle.order.proofs.Steps.{one-more, same-there, shorter-front}
 use Prim.Native.Nat.{_≤_, _+_, _-_}
-use mathlib.Core.Path.{_≡_}
+use mathlib.Core.Path.{_≡_, refl}
 use mathlib.Core.Logic.{⊎-elim}
 use native.Mathlib.Omega.{arith}
 use Rattle.order.proofs.differ.Statement.{statement}
 use Rattle.order.proofs.differ.Tie as tie
 
 abbrev Inv-loop : tie.InvT-loop
-Inv-loop a b at n d₀ i₀ d i = (i ≤ n) × (d ≡ 0 → take (at + i) a ≡ take (at + i) b)
+Inv-loop a b at n d₀ i₀ d i = (i ≤ n) × (d ≡ 0 → take (at + i) a ≡ take (at + i) b) × (take (at + i) a ≡ take (at + i) b → d ≡ 0)
 
 abbrev μ-loop : tie.MeasureT-loop
 μ-loop a b at n d₀ i₀ d i = n - i
 
 loop-holds : tie.Need-loop-holds Inv-loop μ-loop
-loop-holds c = (omega arith, λ e. rw add-zero (c .pre .2))
+loop-holds c = (omega arith, λ e. rw add-zero (c .pre .2), λ e. refl)
 
 add-if1 : tie.Need-add-if1 Inv-loop μ-loop
 add-if1 c = omega arith
@@ -45,10 +45,17 @@ loop-again c =
           (λ w. absurd (omega arith))
           (λ w. rw (← add-assoc) (one-more (r .a .now) (r .b .now) (r .at + l .i) (l .inv .1 (omega arith)) (omega arith) (omega arith) (omega arith)))
           (c .if1 .came),
+      λ z.
+          ⊎-elim
+          (λ w. absurd (omega (arith, same-there (r .a .now) (r .b .now) (r .at + l .i) (shorter-front (r .a .now) (r .b .now) (r .at + l .i + 1) (r .at + (l .i + 1)) (omega arith) z))))
+          (λ w. omega (arith, l .inv .2 (shorter-front (r .a .now) (r .b .now) (r .at + l .i) (r .at + (l .i + 1)) (omega arith) z)))
+          (c .if1 .came),
     )
 
 returns : tie.Need-returns Inv-loop μ-loop
-returns c = λ e. let i : c .before .loop .i ≡ c .before .before .args .n = omega arith in rw (← i) (c .before .loop .inv .1 e)
+returns c =
+    let i : c .before .loop .i ≡ c .before .before .args .n = omega arith in
+    rw (← i) (c .before .loop .inv .1, c .before .loop .inv .2)
 
 pub differ-spec : {M : Type 1} → statement M
 differ-spec =
