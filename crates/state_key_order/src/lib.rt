@@ -11,7 +11,7 @@ use state_wire::step_of;
 use state_wire::string;
 ghost use mathlib.Core.Path.{_≡_};
 ghost use Rattle.format.specs.Format.{scan};
-ghost use Rattle.format.specs.Lists.{isLess, isEqual, before, same};
+ghost use Rattle.format.specs.Lists.{isLess, before, same};
 ghost use Rattle.state_wire.specs.Fields.{maxSnapshotBytes};
 ghost use Rattle.format.specs.Keys.{blockKey, connectorKey};
 ghost use Rattle.state_key_order.specs.Compare.{blockKeysCompared, connectorKeysCompared, spansCompared};

@@ -1,7 +1,6 @@
 -- What is asked of the entries at positions of the bytes: that the connectors they name are known, and of a direction.
 use Prim.Native.Nat.{ℕ}
-use mathlib.Core.Path.{_≡_}
-use mathlib.Core.Bool.{Bool, true, false, cond, _&&_}
+use mathlib.Core.Bool.{Bool, cond, _&&_}
 use mathlib.Core.List.{List}
 use lib.ListN.{getD}
 use lib.Dec.{eqb}
@@ -10,8 +9,6 @@ use Rattle.format.specs.Format.{text}
 use Rattle.format.specs.Keys.{blockKey, connectorKey}
 use Rattle.format.specs.Manifest.{connectors}
 use Rattle.format.specs.Places.{past, keyAt}
-use Rattle.state_index.specs.declared.Found.{Found}
-use Rattle.state_index.specs.declared.Found.the-variants.{At, Nothing}
 
 module _ (s : List ℕ) where
   -- the connector key at a position is of a direction: 0 in, 1 out
@@ -39,8 +36,3 @@ module _ (s : List ℕ) where
         cond (eqb section 5) (joinsAt p)
         (cond (eqb section 8) (drivesAt p)
         (cond (eqb section 10) (ofWay 0 p) (directedAt 1 (past text s p))))
-
--- a word stands for yes, and nothing for no
-pub record Tells (b : Bool) (r : Found) : Type 0 where
-  pub at : (w : ℕ) → r ≡ At w → b ≡ true
-  pub nothing : r ≡ Nothing → b ≡ false

@@ -2,18 +2,14 @@ use Rattle.order.proofs.Steps.{shorter-front}
 use lib.ListN.{getD}
 use Prim.Native.Nat.{ℕ}
 use mathlib.Core.Bool.{true≢false}
-use Rattle.order.proofs.Steps.{one-more, all-same, last-tells, same-there}
+use Rattle.order.proofs.Steps.{one-more, all-same, last-tells}
 use native.Mathlib.Omega.{arith}
 use mathlib.Core.List.{List}
 use mathlib.Core.Path.{_≡_, refl, sym, ap}
 use lib.ListN.{length, take}
-use Prim.Native.Nat.{_+_, _-_, _≤_}
+use Prim.Native.Nat.{_-_, _≤_}
 use Rattle.order.proofs.same.Statement.{statement}
 use Rattle.order.proofs.same.Tie as tie
-use Rattle.order.proofs.same.Reads as reads
-use Rattle.order.proofs.same.Lts as lts
-use Rattle.order.proofs.differ.Reads as differ-reads
-use Rattle.order.proofs.same_blocks.Reads as same-blocks-reads
 
 abbrev Inv-loop : tie.InvT-loop
 Inv-loop a b end i₀ i = (i ≤ length a) × (length b ≡ length a) × (take i a ≡ take i b)

@@ -5,11 +5,6 @@ use native.Mathlib.Omega.{arith}
 use borrow.Author.Needs.{needs}
 use Rattle.state_index.proofs.binary_search.Statement.{statement}
 use Rattle.state_index.proofs.binary_search.Tie as tie
-use Rattle.state_index.proofs.binary_search.Reads as reads
-use Rattle.state_index.proofs.binary_search.Lts as lts
-use Rattle.order.proofs.compare.Reads as compare-reads
-use Rattle.state_index.proofs.key_part.Reads as key-part-reads
-use Rattle.state_index.proofs.word_at.Reads as word-at-reads
 
 abbrev Inv-loop : tie.InvT-loop
 Inv-loop s section index from to key low₀ high₀ low high = Between (numbered section) s index from to key low high

@@ -2,10 +2,6 @@ use Rattle.state_layout.proofs.Indexed.{leaves-then}
 use borrow.Author.Needs.{needs}
 use Rattle.state_references.proofs.validate_references.Statement.{statement}
 use Rattle.state_references.proofs.validate_references.Tie as tie
-use Rattle.state_references.proofs.validate_references.Reads as reads
-use Rattle.state_references.proofs.validate_references.Lts as lts
-use Rattle.state_layout.proofs.hints.put_hints.Reads as put-hints-reads
-use Rattle.state_references.proofs.first_no.Reads as first-no-reads
 
 put-hints-requires : tie.Need-put-hints-requires
 put-hints-requires c κs = search needs

@@ -1,11 +1,8 @@
 use Rattle.state_index.proofs.Order.{apart}
 use mathlib.Core.Path.{sym}
 use native.Mathlib.Omega.{arith}
-use borrow.Author.Needs.{needs}
 use Rattle.state_index.proofs.hints.has_hints.Statement.{statement}
 use Rattle.state_index.proofs.hints.has_hints.Tie as tie
-use Rattle.state_index.proofs.hints.has_hints.Reads as reads
-use Rattle.state_index.proofs.hints.has_hints.Lts as lts
 
 returns : tie.Need-returns
 returns c = λ e. apart (sym e)

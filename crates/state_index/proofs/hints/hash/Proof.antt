@@ -3,11 +3,6 @@ use borrow.Author.Needs.{needs}
 use native.Mathlib.Omega.{arith}
 use Rattle.state_index.proofs.hints.hash.Statement.{statement}
 use Rattle.state_index.proofs.hints.hash.Tie as tie
-use Rattle.state_index.proofs.hints.hash.Reads as reads
-use Rattle.state_index.proofs.hints.hash.Lts as lts
-use Rattle.state_index.proofs.hints.join.Reads as join-reads
-use Rattle.state_index.proofs.hints.next_eight.Reads as next-eight-reads
-use Rattle.state_index.proofs.sift.mix.Reads as mix-reads
 
 abbrev Inv-loop : tie.InvT-loop
 Inv-loop key n h₀ i₀ h i = i ≤ n

@@ -3,18 +3,11 @@ use Rattle.state_layout.proofs.Hinting.{cleared-then}
 use Rattle.state_layout.proofs.Kept.{kept-refl, kept-trans, kept-widen}
 use Rattle.state_index.specs.Sort.{Kept}
 use lib.ListN.{length}
-use Prim.Native.Nat.{_+_, _*_, _-_, _≤_}
+use Prim.Native.Nat.{_*_, _-_, _≤_}
 use borrow.Author.Needs.{needs}
 use native.Mathlib.Omega.{arith}
 use Rattle.state_layout.proofs.hints.put_all.Statement.{statement}
 use Rattle.state_layout.proofs.hints.put_all.Tie as tie
-use Rattle.state_layout.proofs.hints.put_all.Reads as reads
-use Rattle.state_layout.proofs.hints.put_all.Lts as lts
-use Rattle.state_index.proofs.clear.Reads as clear-reads
-use Rattle.state_index.proofs.hints.hints_of.Reads as hints-of-reads
-use Rattle.state_index.proofs.key_part.Reads as key-part-reads
-use Rattle.state_index.proofs.word_at.Reads as word-at-reads
-use Rattle.state_layout.proofs.hints.put_hint.Reads as put-hint-reads
 
 abbrev Inv-loop : tie.InvT-loop
 Inv-loop s section index₀ from to first last w₀ index w = (from ≤ w) × Kept (length index₀ - 4 * to) (length index₀) index₀ index

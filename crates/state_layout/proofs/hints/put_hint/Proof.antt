@@ -4,12 +4,9 @@ use Rattle.state_layout.proofs.Kept.{kept-refl, kept-trans, set-kept}
 use Rattle.state_layout.proofs.Kept.{kept-refl, set-kept}
 use lib.ListN.{length, length-set}
 use Prim.Native.Nat.{_+_, _-_, _≤_}
-use mathlib.Core.Path.{_≡_, refl}
 use native.Mathlib.Omega.{arith}
 use Rattle.state_layout.proofs.hints.put_hint.Statement.{statement}
 use Rattle.state_layout.proofs.hints.put_hint.Tie as tie
-use Rattle.state_layout.proofs.hints.put_hint.Reads as reads
-use Rattle.state_layout.proofs.hints.put_hint.Lts as lts
 
 abbrev Inv-loop : tie.InvT-loop
 Inv-loop index₀ at w end i₀ index i = (at ≤ i) × (end ≤ length index) × Kept at (at + 4) index₀ index

@@ -5,11 +5,6 @@ use native.Mathlib.Omega.{arith}
 use borrow.Author.Needs.{needs}
 use Rattle.state_layout.proofs.hints.put_hints.Statement.{statement}
 use Rattle.state_layout.proofs.hints.put_hints.Tie as tie
-use Rattle.state_layout.proofs.hints.put_hints.Reads as reads
-use Rattle.state_layout.proofs.hints.put_hints.Lts as lts
-use Rattle.state_index.proofs.hints.has_hints.Reads as has-hints-reads
-use Rattle.state_layout.proofs.hints.put_all.Reads as put-all-reads
-use Rattle.state_layout.proofs.table_start.Reads as table-start-reads
 
 table-start-requires : tie.Need-table-start-requires
 table-start-requires c κs = search needs

@@ -1,6 +1,5 @@
 use Rattle.state_references.proofs.Telling.{all-next, all-stop, all-end}
 use native.Mathlib.Omega.{arith}
-use borrow.Author.Needs.{needs}
 use Prim.Native.Nat.{_-_}
 use mathlib.Core.Path.{_≡_, refl}
 use Rattle.state.specs.Bytes.{span}
@@ -28,31 +27,23 @@ word-at-requires c κs = omega (arith, c .loop-test .taken, c .before .before .b
 holds-requires : tie.Need-holds-requires Inv-loop μ-loop
 holds-requires c κs = c .before .before .before .before .before .pre .0
 
-enum-known-f : tie.Need-enum-known-f Inv-loop μ-loop
-enum-known-f c = search needs
-
-enum-told : tie.Need-enum-told Inv-loop μ-loop
-enum-told c = search needs
-
 returns : tie.Need-returns Inv-loop μ-loop
 returns c =
-    let h = c .before .before in
+    let h = c .before in
     let l = h .before .before .before in
-    let g = l .before .before .before in
-    all-stop _ _ _ _ (h .before .before .loop-test .taken) (g .pre .1) (h .before .word-at .ensures) (h .holds .ensures) (c .enum-told .given .1) (l .loop .inv)
+    all-stop _ _ _ _ (h .before .before .loop-test .taken) (l .before .before .before .pre .1) (h .before .word-at .ensures) (h .holds .ensures) (c .if1 .taken) (l .loop .inv)
 
 add-i : tie.Need-add-i Inv-loop μ-loop
-add-i c = omega (arith, c .before .before .before .before .before .loop-test .taken)
+add-i c = omega (arith, c .before .before .before .loop-test .taken)
 
 loop-less : tie.Need-loop-less Inv-loop μ-loop
-loop-less c = omega (arith, c .before .before .before .before .before .loop-test .taken)
+loop-less c = omega (arith, c .before .before .before .loop-test .taken)
 
 loop-again : tie.Need-loop-again Inv-loop μ-loop
 loop-again c =
-    let h = c .before .before .before in
+    let h = c .before in
     let l = h .before .before .before in
-    let g = l .before .before .before in
-    all-next _ _ _ _ (h .before .before .loop-test .taken) (g .pre .1) (h .before .word-at .ensures) (h .holds .ensures) (c .before .f .given .1) (l .loop .inv)
+    all-next _ _ _ _ (h .before .before .loop-test .taken) (l .before .before .before .pre .1) (h .before .word-at .ensures) (h .holds .ensures) (c .if1 .left) (l .loop .inv)
 
 returns-2 : tie.Need-returns-2 Inv-loop μ-loop
 returns-2 c = all-end _ _ _ _ (c .loop-test .left) (c .before .loop .inv)
@@ -66,8 +57,6 @@ all-hold-spec =
     loop-holds
     word-at-requires
     holds-requires
-    enum-known-f
-    enum-told
     returns
     add-i
     loop-less
