@@ -17,32 +17,29 @@ fn join(n: u64, key: &[u8], at: usize) -> u64 {
     mix(n) % 9223372036854775808 + number_at(key, at) % 9223372036854775808
 }
 
-// The place after the eight bytes at i of n, more of which follow: of more than 128, only the first and the last 64 are looked at.
-fn next_eight(i: usize, n: usize) -> usize
-    requires { ⌜ i + 8 < n ⌝ }
+// Where the next sixteen bytes of a key of n are taken, after those at i: of a long key only the first 48 and the last sixteen are.
+fn next_sixteen(i: usize, n: usize) -> usize
+    requires { ⌜ i + 16 < n ⌝ }
     ensures { λ r. ⌜ (i < r) × (r ≤ n) ⌝ }
 {
-    if i == 56 {
-        if 128 < n {
-            return n - 64;
-        }
-    }
-    i + 8
+    if i < 32 { i + 16 } else { n }
 }
 
-// A number of those bytes.
+// A number of those bytes, in two lanes; 0 for a key of fewer than sixteen.
 fn hash(key: &[u8]) -> u64 {
     let n = key.len();
-    if n < 8 {
+    if n < 16 {
         return 0;
     }
-    let mut h = n as u64;
+    let mut a = n as u64;
+    let mut b = 0;
     let mut i = 0;
-    while i < n - 8 {
-        h = join(h, key, i);
-        i = next_eight(i, n);
+    while i < n - 16 {
+        a = join(a, key, i);
+        b = join(b, key, i + 8);
+        i = next_sixteen(i, n);
     }
-    mix(join(h, key, n - 8))
+    mix(join(a, key, n - 16)) / 2 + mix(join(b, key, n - 8)) / 2
 }
 
 // Whether the index is long enough for hints of the table at the words from..to; a small table needs none.

@@ -27,6 +27,15 @@ length-is [] k = refl
 length-is (n ∷ ns) zero = refl
 length-is (n ∷ ns) (suc k) = length-is ns k
 
+-- the last byte of a name
+abbrev pub lastOf : List ℕ → ℕ
+lastOf n = getD n (length n - 1) 0
+
+pub last-is : (names : List (List ℕ)) (k : ℕ) → getD (map lastOf names) k 0 ≡ lastOf (getD names k [])
+last-is [] k = refl
+last-is (n ∷ ns) zero = refl
+last-is (n ∷ ns) (suc k) = last-is ns k
+
 pub short : (b : ℕ) (names : List (List ℕ)) → all (λ n. leb (length n) b) names ≡ true → (k : ℕ) → length (getD names k []) ≤ b
 unfolding all
 short b [] e k = omega arith
