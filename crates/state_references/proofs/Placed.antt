@@ -21,6 +21,10 @@ use Rattle.state_references.specs.Met.{MarksAll}
 use Rattle.state_references.specs.Listed.{keysListed, Lists, MarksListed}
 use Rattle.state_references.proofs.Meeting.{once-not, once-all}
 
+-- a section's table ends within the index
+pub end-there : {s index : List ℕ} → Tabled s index → {k r : ℕ} → k ≤ 12 → r ≡ tableStart (k + 1) (manifestOf s) → r ≤ length index
+end-there t {k} h e = rw e (start-there t (k + 1) (omega arith))
+
 -- ---- sections with room for marks of their entries
 module _ {s index : List ℕ} (t : Tabled s index) where
   keyed-connectors : (marks : ℕ) → tableStart 5 (manifestOf s) ≤ marks → marks ≤ roomStart s

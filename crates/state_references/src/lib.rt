@@ -6,12 +6,16 @@ use entries::all_hold;
 use sets::all_new;
 use sets::texts_differ;
 use state::Section;
+use state_index::key_part;
+use state_index::word_at;
+use state_key_order::same_bytes;
 use state_layout::hints::put_hints;
 use state_layout::marks::all_marked;
 use state_layout::table_start;
 ghost use mathlib.Core.Path.{_≡_};
 ghost use mathlib.Core.List.{map};
-ghost use Prim.Native.Nat.{suc, _-_, _≤_};
+ghost use Prim.Native.Nat.{suc, _-_, _≤_, _<_};
+ghost use lib.ListN.{length};
 ghost use Rattle.format.specs.Lists.{allDifferent};
 ghost use Rattle.format.specs.Fields.{connectorsOf, boundaryOutputsOf, outputName};
 ghost use Rattle.questions.specs.Sets.{all, eachOnce, first};
@@ -106,13 +110,55 @@ fn first_no(s: &[u8], index: &mut [u32]) -> u8
     0
 }
 
-// The same, with hints of both tables in which keys are looked up; the connectors' serve 25 and 26 as well.
+// Are the keys at two words the same?
+fn same_at(s: &[u8], index: &[u32], section: u8, a: usize, b: usize) -> bool
+    requires { ⌜ (a < length (now index)) × (b < length (now index)) ⌝ }
+{
+    same_bytes(
+        key_part(s, section, word_at(index, a)),
+        key_part(s, section, word_at(index, b)),
+    )
+}
+
+// Whether a section that lists keys of another begins and ends with that one's first and last. Then they are most likely in order, so that
+// no hints are needed; it promises nothing.
+fn ends_alike(s: &[u8], index: &[u32], section: u8, listed: u8) -> bool
+    requires { ⌜ Tabled (now s) (now index) ⌝ }
+    requires { ⌜ (section ≤ 12) × (listed ≤ 12) ⌝ }
+{
+    let from = table_start(s, index, section);
+    let to = table_start(s, index, section + 1);
+    let first = table_start(s, index, listed);
+    let last = table_start(s, index, listed + 1);
+    if to <= from {
+        return true;
+    }
+    if last <= first {
+        return true;
+    }
+    if !same_at(s, index, section, from, first) {
+        return false;
+    }
+    same_at(s, index, section, to - 1, last - 1)
+}
+
+// Hints of the blocks, if the schedule needs them.
+fn put_block_hints(s: &[u8], index: &mut [u32])
+    requires { ⌜ Tabled (now s) (now index) ⌝ }
+    ensures { λ _. ⌜ Leaves (now (s .entry)) (now (index .entry)) (now (index .exit)) ⌝ }
+{
+    if !ends_alike(s, index, Section::BLOCKS, Section::SCHEDULE) {
+        put_hints(s, index, Section::BLOCKS);
+    }
+}
+
+// Questions 17 to 20, with hints of the tables in which keys are looked up; the connectors' serve 25 and 26 as well.
 pub fn validate_references(s: &[u8], index: &mut [u32]) -> u8
     requires { ⌜ Tabled (now s) (now index) ⌝ }
     ensures { λ r. ⌜ r ≡ first (references (manifestOf (now (s .entry)))) ⌝ }
     ensures { λ _. ⌜ Leaves (now (s .entry)) (now (index .entry)) (now (index .exit)) ⌝ }
 {
-    put_hints(s, index, Section::BLOCKS);
+    put_block_hints(s, index);
     put_hints(s, index, Section::CONNECTORS);
     first_no(s, index)
 }
