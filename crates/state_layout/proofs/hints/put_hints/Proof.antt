@@ -1,5 +1,4 @@
-use Rattle.state_layout.proofs.Hinting.{start-fits}
-use Rattle.state_layout.proofs.Indexed.{tabled-kept}
+use Rattle.state_layout.proofs.Hinting.{start-fits, kept-leaves}
 use Prim.Native.Nat.{_+_, _<_, _^_}
 use native.Mathlib.Omega.{arith}
 use borrow.Author.Needs.{needs}
@@ -34,7 +33,9 @@ same-length : tie.Need-same-length
 same-length c = search needs
 
 returns : tie.Need-returns
-returns c = tabled-kept _ _ (c .before .before .before .before .before .before .before .before .before .before .before .before .before .before .before .before .pre .0) (c .before .before .put-all .ensures) (rw (← (c .before .before .before .before .before .table-start3 .ensures)) (c .before .before .before .before .if2 .taken))
+returns c =
+    let h = c .before .before .before .before in
+    kept-leaves (h .before .before .before .before .before .before .before .before .before .before .before .before .pre .0) (c .before .before .put-all .ensures) (h .before .table-start3 .ensures) (h .if2 .taken)
 
 same-length-2 : tie.Need-same-length-2
 same-length-2 c = search needs
