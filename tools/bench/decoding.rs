@@ -6,75 +6,16 @@
 use std::process::Command;
 use std::time::Instant;
 
+use lurmashek::{index_words, lent, Options, Part, Refusal, Section, Verdict, MOST_BYTES};
+
 mod plants;
 use plants::{class, plant, plant_and_tail, Shape};
 
-extern "C" {
-    fn handover_decode_manifest(
-        bytes: *const u8,
-        n: usize,
-        base: u64,
-        revision: u32,
-        index: *mut u32,
-        m: usize,
-        answer: *mut u64,
-    ) -> u32;
-    fn handover_decode_tail(
-        manifest: *const u8,
-        n: usize,
-        tail: *const u8,
-        t: usize,
-        base: u64,
-        revision: u32,
-        index: *mut u32,
-        m: usize,
-        answer: *mut u64,
-    ) -> u32;
-    fn handover_compare_manifests(
-        snapshot: *const u8,
-        n: usize,
-        base: u64,
-        revision: u32,
-        index: *mut u32,
-        m: usize,
-        target: *const u8,
-        n2: usize,
-        base2: u64,
-        revision2: u32,
-        index2: *mut u32,
-        m2: usize,
-        answer: *mut u64,
-    ) -> u32;
-}
+const PLAIN: Options = Options { base: 0, revision: 2 };
 
-/// The question that fails, 0 for none, and the first word of the answer.
-fn decode(bytes: &[u8], index: &mut [u32]) -> (u32, u64) {
-    let mut answer = [7; 16];
-    let (b, n, i, m) = (bytes.as_ptr(), bytes.len(), index.as_mut_ptr(), index.len());
-    let question = unsafe { handover_decode_manifest(b, n, 0, 2, i, m, answer.as_mut_ptr()) };
-    (question, answer[0])
-}
-
-/// The same of a manifest and its tail.
-fn decode_tail(bytes: &[u8], tail: &[u8], index: &mut [u32]) -> (u32, u64) {
-    let mut answer = [7; 16];
-    let (b, n, t, k) = (bytes.as_ptr(), bytes.len(), tail.as_ptr(), tail.len());
-    let (i, m) = (index.as_mut_ptr(), index.len());
-    let question = unsafe { handover_decode_tail(b, n, t, k, 0, 2, i, m, answer.as_mut_ptr()) };
-    (question, answer[0])
-}
-
-/// Section and part of a verdict, 0 and 0 for a compatible pair; both are accepted.
-fn compare(s: &[u8], i: &mut [u32], t: &[u8], j: &mut [u32]) -> (u64, u64) {
-    let mut answer = [7; 16];
-    let (a, n, b, m) = (s.as_ptr(), s.len(), t.as_ptr(), t.len());
-    let (i, u, j, v) = (i.as_mut_ptr(), i.len(), j.as_mut_ptr(), j.len());
-    assert_eq!(unsafe { handover_compare_manifests(a, n, 0, 2, i, u, b, m, 0, 2, j, v, answer.as_mut_ptr()) }, 0);
-    (answer[0], answer[1])
-}
-
-fn index_words(n: usize) -> usize {
-    n / 2 + 16
+/// An index for so many bytes, written before it is lent.
+fn index_for(bytes: &[u8]) -> Vec<u32> {
+    vec![7; index_words(bytes.len())]
 }
 
 /// What the oracle prints of a manifest, and of its tail where there is one.
@@ -107,8 +48,8 @@ fn best(rounds: usize, mut call: impl FnMut()) -> f64 {
 
 /// A manifest judged; `each` also tells the time for a byte.
 fn row(name: &str, rounds: usize, bytes: &[u8], each: bool, oracle: &[String]) {
-    let mut index = vec![7u32; index_words(bytes.len())];
-    let time = best(rounds, || assert_eq!(decode(bytes, &mut index), (0, 0)));
+    let mut index = index_for(bytes);
+    let time = best(rounds, || assert!(lent::decode_manifest(bytes, PLAIN, &mut index).is_ok()));
     let n = bytes.len() as f64;
     let speed = if each { format!("{:.2}", time * 1e9 / n) } else { format!("{:.0}", n / time / 1e6) };
     print!("| {name} | {:.1} | {:.2} | {speed} |", n / 1e6, time * 1e3);
@@ -128,9 +69,11 @@ fn verdict_row(size: usize, rounds: usize, oracle: &[String]) {
     let mut other = bytes.clone();
     let last = bytes.windows(10).rposition(|w| w == b"Types.Mode").expect("a parameter") + 10;
     other[last] = 3 - other[last];
-    let (mut i, mut j) = (vec![7u32; index_words(bytes.len())], vec![7u32; index_words(bytes.len())]);
-    let mut time = |t: &[u8], verdict| best(rounds, || assert_eq!(compare(&bytes, &mut i, t, &mut j), verdict));
-    let (same, differs) = (time(&bytes, (0, 0)), time(&other, (3, 7)));
+    let (mut i, mut j) = (index_for(&bytes), index_for(&bytes));
+    let mut call = |t: &[u8]| lent::compare_manifests(&bytes, PLAIN, &mut i, t, PLAIN, &mut j);
+    let same = best(rounds, || assert_eq!(call(&bytes), Ok(Verdict::Compatible)));
+    let value = |v| matches!(v, Ok(Verdict::Differs { section: Section::Blocks, part: Part::ParameterValue, .. }));
+    let differs = best(rounds, || assert!(value(call(&other))));
     print!("| two plants, {size} MiB each | {:.1} | {:.1} |", same * 1e3, differs * 1e3);
     if let Some(out) = rust_bench(oracle, rounds, &bytes, None) {
         let of = |function| rust_line(&out, function).0;
@@ -144,8 +87,8 @@ fn verdict_row(size: usize, rounds: usize, oracle: &[String]) {
 /// two is taken off.
 fn tail_row(size: usize, rounds: usize, oracle: &[String]) {
     let (bytes, tail) = plant_and_tail(size << 20);
-    let mut index = vec![7u32; index_words(bytes.len())];
-    let time = best(rounds, || assert_eq!(decode_tail(&bytes, &tail, &mut index), (0, 0)));
+    let mut index = index_for(&bytes);
+    let time = best(rounds, || assert!(lent::decode_tail(&bytes, &tail, PLAIN, &mut index).is_ok()));
     let mb = |n: usize| n as f64 / 1e6;
     print!("| plant, {size} MiB, and its tail | {:.1} | {:.1} | {:.1} |", mb(bytes.len()), mb(tail.len()), time * 1e3);
     if let Some(out) = rust_bench(oracle, rounds, &bytes, Some(&tail)) {
@@ -159,18 +102,21 @@ fn tail_row(size: usize, rounds: usize, oracle: &[String]) {
 
 /// Questions 1 and 2, for which the stored vectors have no bytes: after 1 the index is 0, after 2 as it was.
 fn too_much_or_too_little() {
-    const MOST: usize = 67_108_864;
-    for (n, words, question, left) in [(MOST + 1, index_words(MOST + 1), 1, 0), (MOST, index_words(MOST) - 1, 2, 9)] {
-        let mut index = vec![9u32; words];
-        assert_eq!(decode(&vec![0; n], &mut index), (question, 0));
+    let refused = |question, offset| Err(Refusal { question, offset });
+    for (n, words, question, left) in
+        [(MOST_BYTES + 1, index_words(MOST_BYTES + 1), 1, 0), (MOST_BYTES, index_words(MOST_BYTES) - 1, 2, 9)]
+    {
+        let mut index = vec![9; words];
+        assert_eq!(lent::decode_manifest(&vec![0; n], PLAIN, &mut index), refused(question, 0));
         assert!(index.iter().all(|w| *w == left));
     }
-    assert_eq!(decode(&vec![0; MOST], &mut vec![9; index_words(MOST)]), (10, 45));
+    let (zeros, mut index) = (vec![0; MOST_BYTES], vec![9; index_words(MOST_BYTES)]);
+    assert_eq!(lent::decode_manifest(&zeros, PLAIN, &mut index), refused(10, 45));
     // of a manifest and its tail both lengths count, and the index is the manifest's
-    let (zeros, mut index) = (vec![0; MOST], vec![9u32; index_words(45)]);
-    assert_eq!(decode_tail(&zeros[..45], &zeros[45..], &mut index), (10, 61));
+    let mut index = vec![9; index_words(45)];
+    assert_eq!(lent::decode_tail(&zeros[..45], &zeros[45..], PLAIN, &mut index), refused(10, 61));
     index.fill(9);
-    assert_eq!(decode_tail(&zeros[..45], &zeros[44..], &mut index), (1, 0));
+    assert_eq!(lent::decode_tail(&zeros[..45], &zeros[44..], PLAIN, &mut index), refused(1, 0));
     assert!(index.iter().all(|w| *w == 0));
 }
 

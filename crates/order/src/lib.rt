@@ -63,24 +63,24 @@ pub fn same(a: &[u8], b: &[u8]) -> bool
     if b.len() != end {
         return false;
     }
-    let mut i = same_blocks(a, b, 0, 64);
-    i = same_blocks(a, b, i, 16);
+    let mut at = same_blocks(a, b, 0, 64);
+    at = same_blocks(a, b, at, 16);
     if 16 <= end {
-        if end - 16 <= i {
+        if end - 16 <= at {
             return differ(a, b, end - 16, 16) == 0;
         }
     }
-    i = same_blocks(a, b, i, 8);
+    at = same_blocks(a, b, at, 8);
     if 8 <= end {
-        if end - 8 <= i {
+        if end - 8 <= at {
             return differ(a, b, end - 8, 8) == 0;
         }
     }
-    while i < end {
-        if a[i] != b[i] {
+    while at < end {
+        if a[at] != b[at] {
             return false;
         }
-        i += 1;
+        at += 1;
     }
     true
 }

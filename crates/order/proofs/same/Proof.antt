@@ -12,10 +12,10 @@ use Rattle.order.proofs.same.Statement.{statement}
 use Rattle.order.proofs.same.Tie as tie
 
 abbrev Inv-loop : tie.InvT-loop
-Inv-loop a b end i₀ i = (i ≤ length a) × (length b ≡ length a) × (take i a ≡ take i b)
+Inv-loop a b end at₀ at = (at ≤ length a) × (length b ≡ length a) × (take at a ≡ take at b)
 
 abbrev μ-loop : tie.MeasureT-loop
-μ-loop a b end i₀ i = length a - i
+μ-loop a b end at₀ at = length a - at
 
 returns : tie.Need-returns Inv-loop μ-loop
 returns c = (λ e. absurd (true≢false (sym e)), λ e. absurd (c .if1 .taken (sym (ap (λ (l : List ℕ). length l) e))))
@@ -51,19 +51,19 @@ shared-slice-read-if6-2 : tie.Need-shared-slice-read-if6-2 Inv-loop μ-loop
 shared-slice-read-if6-2 c = omega arith
 
 returns-4 : tie.Need-returns-4 Inv-loop μ-loop
-returns-4 c = (λ e. absurd (true≢false (sym e)), λ e. absurd (c .if6 .taken (ap (λ (l : List ℕ). getD l (c .before .before .before .before .loop .i) 0) e)))
+returns-4 c = (λ e. absurd (true≢false (sym e)), λ e. absurd (c .if6 .taken (ap (λ (l : List ℕ). getD l (c .before .before .before .before .loop .at) 0) e)))
 
-add-i : tie.Need-add-i Inv-loop μ-loop
-add-i c = omega arith
+add-at : tie.Need-add-at Inv-loop μ-loop
+add-at c = omega arith
 
 loop-less : tie.Need-loop-less Inv-loop μ-loop
 loop-less c = omega arith
 
 loop-again : tie.Need-loop-again Inv-loop μ-loop
-loop-again c = (omega arith, c .before .before .before .before .loop .inv .1, one-more (c .before .before .before .before .before .before .before .before .before .before .before .before .before .args .a .now) (c .before .before .before .before .before .before .before .before .before .before .before .before .before .args .b .now) (c .before .before .before .before .loop .i) (c .before .before .before .before .loop .inv .2) (omega arith) (omega arith) (c .if6 .left))
+loop-again c = (omega arith, c .before .before .before .before .loop .inv .1, one-more (c .before .before .before .before .before .before .before .before .before .before .before .before .before .args .a .now) (c .before .before .before .before .before .before .before .before .before .before .before .before .before .args .b .now) (c .before .before .before .before .loop .at) (c .before .before .before .before .loop .inv .2) (omega arith) (omega arith) (c .if6 .left))
 
 returns-5 : tie.Need-returns-5 Inv-loop μ-loop
-returns-5 c = (λ e. all-same (c .before .before .before .before .before .before .before .before .before .before .args .a .now) (c .before .before .before .before .before .before .before .before .before .before .args .b .now) (c .before .loop .i) (omega arith) (omega arith) (c .before .loop .inv .2), λ e. refl)
+returns-5 c = (λ e. all-same (c .before .before .before .before .before .before .before .before .before .before .args .a .now) (c .before .before .before .before .before .before .before .before .before .before .args .b .now) (c .before .loop .at) (omega arith) (omega arith) (c .before .loop .inv .2), λ e. refl)
 
 pub same-spec : {M : Type 1} → statement M
 same-spec =
@@ -83,7 +83,7 @@ same-spec =
     shared-slice-read-if6
     shared-slice-read-if6-2
     returns-4
-    add-i
+    add-at
     loop-less
     loop-again
     returns-5)
