@@ -38,7 +38,7 @@ extern "C" {
    10  bytes left over                           26  a boundary output's source, or a name that is there twice
    11  a class without members                   27  an external path with two types
    12  a block's kind, revision and length       28  definitions are not those of the external paths
-   13  an enum parameter's class or ordinal      29  a bound of another type than its definition
+   13  an enum parameter's class or ordinal      29  a bound of another type, Boolean or String
    14  a block's ports                           30  a bound's ordinal out of range
    15  ports are not the connectors              31  the target's tag and the blocks' classes disagree
    16  classes are not those that are named      32  an empty target string */
