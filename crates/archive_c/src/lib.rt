@@ -1,4 +1,6 @@
 // Text, strings and key order for programs in C and Rust, without the manifest reader: see include/archive.h.
+#![tactic(auto)]
+
 ghost use Rattle.std.specs.Prelude.{◌≡◌};
 ghost use Rattle.text.specs.Valid.{valid_up_to};
 ghost use Rattle.order.specs.Lex.{lex_compare, agreeing};

@@ -1,4 +1,6 @@
 // The calls on manifests for programs in C and Rust: see include/handover.h.
+#![tactic(auto)]
+
 ghost use Rattle.std.specs.Prelude.{◌≡◌, ◌∷◌, length, replicate};
 ghost use Rattle.questions.specs.Portability.{target_bound_classes};
 ghost use Rattle.questions.specs.Answers.{judge, decode_manifest, decoded_index};

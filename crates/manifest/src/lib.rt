@@ -1,4 +1,6 @@
 // The entry points: what a call on a manifest answers, and what it leaves of the lent index.
+#![tactic(auto)]
+
 ghost use Rattle.std.specs.Prelude.{◌≡◌, cond, ◌++◌, ◌-◌, ◌≤◌, eqb, length, take, replicate};
 ghost use Rattle.questions.specs.Portability.{target_bound_classes};
 ghost use Rattle.questions.specs.Answers.{offset_at, starts_of, refusal, acceptance, decode_manifest, decoded_index};

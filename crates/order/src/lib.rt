@@ -1,8 +1,10 @@
 // The order of two runs of bytes, and how many bytes agree before it is decided.
+#![tactic(auto)]
+
 ghost use Rattle.std.specs.Prelude.{◌≡◌, true, ◌+◌, ◌<◌, ◌≤◌, min, length, take};
 ghost use Rattle.order.specs.Lex.{compared};
 
-#[derive(Drop)]
+#[derive(Clone, Copy)]
 pub enum Order {
     Less,
     Equal,
@@ -10,7 +12,7 @@ pub enum Order {
 }
 
 // The order, and how many bytes at the front are the same.
-#[derive(Drop)]
+#[derive(Clone, Copy)]
 pub struct Compared {
     pub order: Order,
     pub agree: usize,

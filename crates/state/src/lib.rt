@@ -1,44 +1,46 @@
 // The types that all crates share: answers, the section starts, and the numbers that stand on the wire.
+#![tactic(auto)]
+
 
 // The longest manifest, and the highest limit of a string.
 pub const MAX_SNAPSHOT_BYTES: usize = 67108864;
 
 // Reading goes on at a position; or a question was answered no, at a position.
-#[derive(Drop)]
+#[derive(Clone, Copy)]
 pub enum Step {
     Next(usize),
     Refused(u8, usize),
 }
 
 // A number that was read and the position after it; or the refusal.
-#[derive(Drop)]
+#[derive(Clone, Copy)]
 pub enum Field {
     Value(u64, usize),
     Refused(u8, usize),
 }
 
 // What a call with a base offset answers: acceptance, or the question's number and the offset.
-#[derive(Drop)]
+#[derive(Clone, Copy)]
 pub enum Answer {
     Accepted,
     Refused(u8, u64),
 }
 
 // The twelve section starts, counted from the manifest's first byte.
-#[derive(Drop)]
+#[derive(Clone, Copy)]
 pub struct Starts {
     pub at: [u32; 12],
 }
 
 // What a call on a manifest answers: acceptance with the starts; or the refusal, and then the starts are 0.
-#[derive(Drop)]
+#[derive(Clone, Copy)]
 pub struct Decoded {
     pub answer: Answer,
     pub starts: Starts,
 }
 
 // What a call for units answers: the state words and the units; or the refusal.
-#[derive(Drop)]
+#[derive(Clone, Copy)]
 pub enum Units {
     Of(u64, u64),
     Refused(u8, u64),
@@ -46,7 +48,7 @@ pub enum Units {
 
 // What a call on a snapshot's manifest and a target's answers: nothing differs; or section, part, entry place and inner place of the first
 // difference; or the refusal of one of the two.
-#[derive(Drop)]
+#[derive(Clone, Copy)]
 pub enum Verdict {
     Compatible,
     Differs(u8, u8, usize, usize),
@@ -55,7 +57,7 @@ pub enum Verdict {
 }
 
 // The parts of a verdict.
-#[derive(Drop)]
+#[derive(Clone, Copy)]
 pub struct Part(pub u8);
 
 impl Part {
@@ -90,7 +92,7 @@ impl Part {
 }
 
 // The section numbers.
-#[derive(Drop)]
+#[derive(Clone, Copy)]
 pub struct Section(pub u8);
 
 impl Section {
@@ -120,7 +122,7 @@ impl Section {
 }
 
 // The tags of section 1.
-#[derive(Drop)]
+#[derive(Clone, Copy)]
 pub struct Portability(pub u8);
 
 impl Portability {
@@ -133,7 +135,7 @@ impl Portability {
 }
 
 // The tags of block keys.
-#[derive(Drop)]
+#[derive(Clone, Copy)]
 pub struct BlockKey(pub u8);
 
 impl BlockKey {
@@ -146,7 +148,7 @@ impl BlockKey {
 }
 
 // The directions of connectors.
-#[derive(Drop)]
+#[derive(Clone, Copy)]
 pub struct WireDir(pub u8);
 
 impl WireDir {
@@ -158,7 +160,7 @@ impl WireDir {
 }
 
 // The kinds of blocks.
-#[derive(Drop)]
+#[derive(Clone, Copy)]
 pub struct BlockKind(pub u8);
 
 impl BlockKind {
@@ -170,7 +172,7 @@ impl BlockKind {
 }
 
 // The tags of value types and of values.
-#[derive(Drop)]
+#[derive(Clone, Copy)]
 pub struct WireValueType(pub u8);
 
 impl WireValueType {

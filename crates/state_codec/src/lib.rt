@@ -1,4 +1,6 @@
 // A manifest and the tail behind it: connector values, state words, flags.
+#![tactic(auto)]
+
 mod values;
 
 ghost use Rattle.std.specs.Prelude.{◌≡◌, not, ◌+◌, leb};

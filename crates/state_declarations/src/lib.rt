@@ -1,4 +1,6 @@
 // Questions 11 to 16: enum classes, blocks, ports.
+#![tactic(auto)]
+
 mod blocks;
 mod sets;
 

@@ -1,4 +1,6 @@
 // The lent index: words that are positions of the bytes. Clearing, sorting and looking up.
+#![tactic(auto)]
+
 pub mod hints;
 pub mod keys;
 mod merge;
@@ -23,7 +25,7 @@ use state::Section;
 use state_wire::{part, remaining, u32_at};
 
 // What positions are sorted by.
-#[derive(Drop)]
+#[derive(Clone, Copy)]
 pub struct SortKey(pub u8);
 
 impl SortKey {
@@ -35,7 +37,7 @@ impl SortKey {
 }
 
 // Where a key was found: the word of its entry.
-#[derive(Drop)]
+#[derive(Clone, Copy)]
 pub enum Found {
     At(usize),
     Nothing,

@@ -1,4 +1,6 @@
 // Input definitions against the external inputs: questions 27 to 30.
+#![tactic(auto)]
+
 mod definitions;
 mod paths;
 

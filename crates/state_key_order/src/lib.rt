@@ -1,4 +1,6 @@
 // Block keys and connector keys in the lent bytes: where they end, and how they compare.
+#![tactic(auto)]
+
 ghost use Rattle.std.specs.Prelude.{◌≡◌};
 ghost use Rattle.format.specs.Format.{scan};
 ghost use Rattle.format.specs.Lists.{is_less, before, same};
@@ -11,7 +13,7 @@ use state::{BlockKey, Field, Step, WireDir};
 use state_wire::{part, read_tag, read_u32, step_of, string};
 
 // The order of two keys and how many of their bytes agree; or the first key that is no whole one, with question and position.
-#[derive(Drop)]
+#[derive(Clone, Copy)]
 pub enum KeysCompared {
     Compared(Order, usize),
     LeftRefused(u8, usize),

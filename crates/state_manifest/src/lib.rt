@@ -1,4 +1,6 @@
 // The word total and the units of a manifest, and the verdict on two.
+#![tactic(auto)]
+
 mod blocks;
 mod compare;
 

@@ -7,7 +7,7 @@ use state::Section;
 
 // How the list of a section is read: the least bytes of an entry, how many bytes of a key are passed over in the order, and
 // whether the order is asked right after the key or after the entry.
-#[derive(Drop)]
+#[derive(Clone, Copy)]
 pub struct Layout {
     pub least: u64,
     pub skip: usize,

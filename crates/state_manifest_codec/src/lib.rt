@@ -1,4 +1,6 @@
 // Reads a manifest's twelve sections, questions 1 to 10, and keeps where its entries start in the lent index.
+#![tactic(auto)]
+
 mod entries;
 mod layouts;
 pub mod lists;

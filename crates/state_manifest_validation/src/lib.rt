@@ -1,4 +1,6 @@
 // The questions over a manifest that was read, 11 to 32, in document 01's order.
+#![tactic(auto)]
+
 ghost use Rattle.std.specs.Prelude.{◌≡◌};
 ghost use Rattle.questions.specs.Portability.{target_bound_classes};
 ghost use Rattle.questions.specs.Order.{first_failing};

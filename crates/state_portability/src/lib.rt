@@ -1,4 +1,6 @@
 // Whether a manifest is bound to a target: questions 31 and 32.
+#![tactic(auto)]
+
 ghost use Rattle.std.specs.Prelude.{◌≡◌, ◌≤◌, ◌<◌, [], length, get_or};
 ghost use Rattle.state.specs.Bytes.{span};
 ghost use Rattle.format.specs.Lists.{same, is_in};

@@ -1,4 +1,6 @@
 // A reader that holds the lent bytes, a position in them and the offset of the first byte: state_wire's functions as its methods.
+#![tactic(auto)]
+
 ghost use Rattle.std.specs.Prelude.{◌≡◌, ◌-◌, length, eqb};
 ghost use Rattle.state.specs.Outcome.{step_of, field_of, offset_of};
 ghost use Rattle.state_wire.specs.Fields.{read_number, read_text, text_of};
@@ -6,7 +8,7 @@ ghost use Rattle.state_reader.specs.Read.{string_read, opened, moved_to, past_fi
 
 use state::{Field, Step};
 
-#[derive(Drop)]
+#[derive(Clone, Copy)]
 pub struct Reader<'a> {
     pub bytes: &'a [u8],
     pub position: usize,
@@ -14,7 +16,7 @@ pub struct Reader<'a> {
 }
 
 // Where the text of a string begins and ends; or the question that fails, and the offset.
-#[derive(Drop)]
+#[derive(Clone, Copy)]
 pub enum StringRead {
     Text(usize, usize),
     Refused(u8, u64),

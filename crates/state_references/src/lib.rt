@@ -1,4 +1,6 @@
 // Keys that name blocks and connectors: questions 17 to 20, 25 and 26.
+#![tactic(auto)]
+
 mod entries;
 mod sets;
 

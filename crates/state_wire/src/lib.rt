@@ -1,4 +1,6 @@
 // Fields of the wire, read where they stand: little-endian numbers, tags, counts and strings.
+#![tactic(auto)]
+
 ghost use Rattle.std.specs.Prelude.{◌≡◌, ◌+◌, ◌*◌, ◌-◌, ◌≤◌, length, leb};
 ghost use Rattle.state.specs.Bytes.{span, number_of};
 ghost use Rattle.state.specs.Outcome.{step_of, field_of, step_of_field, offset_of};

@@ -1,4 +1,6 @@
 // How far bytes are text: UTF-8 as RFC 3629 has it.
+#![tactic(auto)]
+
 mod ascii;
 mod characters;
 mod runs;

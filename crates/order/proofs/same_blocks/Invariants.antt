@@ -1,0 +1,10 @@
+use Prim.Native.Nat.{◌≤◌, ◌-◌}
+use lib.ListN.{length, take}
+use mathlib.Core.Path.{◌≡◌}
+use Rattle.order.proofs.same_blocks.Given as goal
+
+abbrev pub invariant-loop-at : goal.invariant-loop-at
+invariant-loop-at l = (l.at ≤ length l.a) × (l.at ≤ length l.b) × (take l.at l.a ≡ take l.at l.b)
+
+abbrev pub decreases-loop-at : goal.decreases-loop-at
+decreases-loop-at l = length l.a - l.at
