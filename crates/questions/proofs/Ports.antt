@@ -161,7 +161,7 @@ blocks-named [] s n h = absurd (false≢true h)
 blocks-named (b ∷ bs) s n h =
     let name : List ℕ = encode block_key (block_key_of b) in
     in_either n (block_ports b) (gather block_ports bs)
-    (λ m. names-so (λ p e. rw e (in-front name (block_names bs))) (block-named b s.0 n m))
+    (λ m. names-so (λ p e. subst (λ (x : List ℕ). is_in x (block_names (b ∷ bs)) ≡ true) (sym e) (in-front name (block_names bs))) (block-named b s.0 n m))
     (λ m. names-so (λ p e. in_rest _ name (block_names bs) e) (blocks-named bs s.1 n m))
     h
 
