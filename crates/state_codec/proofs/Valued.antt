@@ -118,23 +118,23 @@ module _ {s index : List ℕ} {classes end from to : ℕ} (t : List ℕ) (at : �
       type-told = type-is ∙ rw (← there, ← typed, ← behind) (has-type t p (value_at value_type s q)) ∙ sym same-type
 
       -- 35 says no
-      pub value-other : not b ≡ true → 35 ≡ answer
+      pub value-other : b ≡ false → 35 ≡ answer
       unfolding value_answer
-      value-other n = sym (says-yes 34 _ known ∙ sym (says-no 34 _ (type-told ∙ not-true b n)))
+      value-other n = sym (says-yes 34 _ known ∙ sym (says-no 34 _ (type-told ∙ n)))
 
-      module _ (n : not b ≡ false) {d : Bool} (holds : d ≡ enum_holds (classes_at s index classes end) (value_at value t p)) where
+      module _ (n : b ≡ true) {d : Bool} (holds : d ≡ enum_holds (classes_at s index classes end) (value_at value t p)) where
         rest-is : answer ≡ 36 unless d
         unfolding value_answer value_of value_at
         rest-is =
-            says-yes 34 _ known ∙ says-yes 35 _ (type-told ∙ not-false b n) ∙ first_one _
+            says-yes 34 _ known ∙ says-yes 35 _ (type-told ∙ n) ∙ first_one _
             ∙ ap (λ (c : Bool). 36 unless c) (rw (← behind) (sym holds))
 
         -- 36 says no
-        pub value-outside : not d ≡ true → 36 ≡ answer
+        pub value-outside : d ≡ false → 36 ≡ answer
         unfolding ◌unless◌
-        value-outside m = sym (rest-is ∙ rw (not-true d m))
+        value-outside m = sym (rest-is ∙ rw m)
 
         -- all three say yes
-        pub value-right : not d ≡ false → 0 ≡ answer
+        pub value-right : d ≡ true → 0 ≡ answer
         unfolding ◌unless◌
-        value-right m = sym (rest-is ∙ rw (not-false d m))
+        value-right m = sym (rest-is ∙ rw m)

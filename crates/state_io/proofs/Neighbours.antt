@@ -1,7 +1,7 @@
 -- Questions 27 and 28 of paths that are sorted: neighbours decide.
 use Prim.Native.Nat.{ℕ}
 use native.Mathlib.Omega.{arith}
-use mathlib.Core.Path.{◌≡◌, refl, sym, ◌∙◌}
+use mathlib.Core.Path.{◌≡◌, refl, sym, ◌∙◌, subst}
 use mathlib.Core.Bool.{Bool, true, false, not, cond, ◌&&◌, ◌||◌, and-false}
 use mathlib.Core.List.{List, [], ◌∷◌, map, Permᴰ}
 use Rattle.format.specs.Lists.{same, is_in}
@@ -140,7 +140,7 @@ unfolding count_different is_in
 count-swap a b ks = go (same a b) refl
   where
     go : (t : Bool) → same a b ≡ t → count_different (a ∷ (b ∷ ks)) ≡ count_different (b ∷ (a ∷ ks))
-    go true i = rw (same_true a b i)
+    go true i = subst (λ (x : List ℕ). count_different (a ∷ (x ∷ ks)) ≡ count_different (x ∷ (a ∷ ks))) (same_true a b i) refl
     go false i = rw (i, sym (same-sym a b) ∙ i) (omega arith)
 
 -- "28. As many definitions as such paths"

@@ -2,7 +2,7 @@
 use Prim.Native.Nat.{ℕ, zero, suc, ◌+◌, ◌-◌, ◌≤◌, ◌<◌}
 use native.Mathlib.Omega.{arith}
 use native.Mathlib.Nat.{add-sub_cancel_left}
-use mathlib.Core.Path.{◌≡◌, refl, ap, ◌∙◌}
+use mathlib.Core.Path.{◌≡◌, refl, ap, ◌∙◌, subst}
 use mathlib.Core.Bool.{Bool, true, false, not, cond, or-true}
 use mathlib.Core.List.{List, [], ◌∷◌, map}
 use lib.ListN.{length, get_or, set, replicate, length-map}
@@ -57,7 +57,9 @@ pub mark_set : (seen keys : List (List ℕ)) (k : List ℕ) (w : ℕ) → all_di
     → set (marks_of seen keys) w 1 ≡ marks_of (k ∷ seen) keys
 unfolding marks_of is_in
 mark_set seen [] k w d h e = absurd (omega arith)
-mark_set seen (x ∷ keys) k zero d h e = rw (← e, same_refl x) (ap (λ (l : List ℕ). 1 ∷ l) (marks-other seen keys x (first-apart x keys d).0))
+mark_set seen (x ∷ keys) k zero d h e =
+    subst (λ (z : List ℕ). set (marks_of seen (x ∷ keys)) 0 1 ≡ marks_of (z ∷ seen) (x ∷ keys)) e
+    (rw (same_refl x) (ap (λ (l : List ℕ). 1 ∷ l) (marks-other seen keys x (first-apart x keys d).0)))
 mark_set seen (x ∷ keys) k (suc w) d h e =
     let a = first-apart x keys d in
     let n : same x k ≡ false = rw e at (key_apart x keys w a.0 (omega arith)) in

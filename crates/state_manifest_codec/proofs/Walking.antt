@@ -78,26 +78,26 @@ module _ {limit n : ℕ} {layout : Layout} {s : List ℕ} {at word : ℕ} {old :
       }
 
       module _ {b : Bool} (eb : b ≡ cond layout.early (above (span s (p + layout.skip) k) (prior any (span s from to))) true) where
-        pub walk-key-low : {ps : List ℕ} → not b ≡ true → Fills (step.Refused 9 k) (scan limit (counted (numbered n)) s at) ps word old new
-        walk-key-low t = fills-stop (going-key-low g.going h ek ik (early-told n g.laid s p k _ eb (not-true _ t))) refl g.filling.long
+        pub walk-key-low : {ps : List ℕ} → b ≡ false → Fills (step.Refused 9 k) (scan limit (counted (numbered n)) s at) ps word old new
+        walk-key-low t = fills-stop (going-key-low g.going h ek ik (early-told n g.laid s p k _ eb t)) refl g.filling.long
 
-        module _ (tb : not b ≡ false) {y : Step} {next : List ℕ} (er : Fills y (scan limit (numbered n).rest s k) [] w new next) where
+        module _ (tb : b ≡ true) {y : Step} {next : List ℕ} (er : Fills y (scan limit (numbered n).rest s k) [] w new next) where
           pub walk-long : length next ≡ length old
           walk-long = er.long ∙ g.filling.long
 
           pub walk-rest-stop : {ps : List ℕ} {q z : ℕ} → y ≡ step.Refused q z → Fills y (scan limit (counted (numbered n)) s at) ps word old next
-          walk-rest-stop i = fills-stop (going-rest-stop g.going h ek ik (early-told n g.laid s p k _ eb (not-false _ tb)) er.is i) i walk-long
+          walk-rest-stop i = fills-stop (going-rest-stop g.going h ek ik (early-told n g.laid s p k _ eb tb) er.is i) i walk-long
 
           module _ {e : ℕ} (ir : y ≡ step.Next e) {d : Bool} (ed : d ≡ cond layout.late (above (span s (p + layout.skip) k) (prior any (span s from to))) true) where
-            pub walk-low : {ps : List ℕ} → not d ≡ true → Fills (step.Refused 9 e) (scan limit (counted (numbered n)) s at) ps word old next
-            walk-low t = fills-stop (going-low g.going h ek ik (early-told n g.laid s p k _ eb (not-false _ tb)) er.is ir (late-told n g.laid s p k _ ed (not-true _ t))) refl walk-long
+            pub walk-low : {ps : List ℕ} → d ≡ false → Fills (step.Refused 9 e) (scan limit (counted (numbered n)) s at) ps word old next
+            walk-low t = fills-stop (going-low g.going h ek ik (early-told n g.laid s p k _ eb tb) er.is ir (late-told n g.laid s p k _ ed t)) refl walk-long
 
             pub walk-word : Room s old at word → w < length next
             walk-word r = omega (arith, filling-room g.filling r g.going.here, er.long)
 
-            pub walk-on : Room s old at word → not d ≡ false → {v : ℕ} → v ≡ p → Walking limit n layout s at word old (left - 1) e true (p + layout.skip) k (w + 1) (set next w v)
+            pub walk-on : Room s old at word → d ≡ true → {v : ℕ} → v ≡ p → Walking limit n layout s at word old (left - 1) e true (p + layout.skip) k (w + 1) (set next w v)
             walk-on r t q = record {
               laid = g.laid;
-              going = going_on g.going h ek ik (early-told n g.laid s p k _ eb (not-false _ tb)) er.is ir (late-told n g.laid s p k _ ed (not-false _ t)) (key-kept n g.laid s p k _);
+              going = going_on g.going h ek ik (early-told n g.laid s p k _ eb tb) er.is ir (late-told n g.laid s p k _ ed t) (key-kept n g.laid s p k _);
               filling = filling-on g.filling h next er.long (fills-keeps er ir) (walk-word r) (entry-end limit (numbered n).key (numbered n).rest s p ek ik er.is ir) (omega (arith, walk-key.0, (next-within limit s (numbered n).rest k walk-key.1 er.is ir).0)) q;
             }

@@ -20,11 +20,11 @@ use Rattle.state_references.proofs.Placed.{marks-leave, lists-externals}
 use Rattle.state_references.proofs.Answered.{joins-answer, schedule-answer, order-answer, drivers-other, drivers-answer, externals-other, externals-answer, outputs-other, outputs-answer}
 
 -- what a function answered of a question, where it was asked for no
-said-no : {r b : Bool} → r ≡ b → not r ≡ true → b ≡ false
-said-no {r} e n = sym e ∙ not-true r n
+said-no : {r b : Bool} → r ≡ b → r ≡ false → b ≡ false
+said-no {r} e n = sym e ∙ n
 
-said-yes : {r b : Bool} → r ≡ b → not r ≡ false → b ≡ true
-said-yes {r} e n = sym e ∙ not-false r n
+said-yes : {r b : Bool} → r ≡ b → r ≡ true → b ≡ true
+said-yes {r} e n = sym e ∙ n
 
 none_left : 0 ≡ first []
 unfolding first
@@ -46,27 +46,27 @@ module _ (m : El manifest) where
   from-17 = refl
 
 module _ {s i₀ : List ℕ} (t : Tabled s i₀) {r₁ : Bool} (e₁ : r₁ ≡ all (holds_at s (connector_names (connectors_of (manifest_of s))) 5) (table_of 5 s i₀)) where
-  pub stops-17 : not r₁ ≡ true → (17 ≡ first (references (manifest_of s))) × Leaves s i₀ i₀
+  pub stops-17 : r₁ ≡ false → (17 ≡ first (references (manifest_of s))) × Leaves s i₀ i₀
   stops-17 n = (says-no 16 _ (said-no (joins-answer t e₁) n) ∙ sym (from-17 (manifest_of s)), leaves_all t)
 
-  module _ (n₁ : not r₁ ≡ false) {r₂ : Bool} {i₁ : List ℕ} (e₂ : (r₂ ≡ each_once (keys_listed 3 6 s i₀) (keys_listed 3 3 s i₀)) × Leaves s i₀ i₁) where
+  module _ (n₁ : r₁ ≡ true) {r₂ : Bool} {i₁ : List ℕ} (e₂ : (r₂ ≡ each_once (keys_listed 3 6 s i₀) (keys_listed 3 3 s i₀)) × Leaves s i₀ i₁) where
     left-18 : first (references (manifest_of s)) ≡ first (from-18 (manifest_of s))
     left-18 = from-17 (manifest_of s) ∙ says-yes 17 _ (said-yes (joins-answer t e₁) n₁)
 
-    pub stops-18 : not r₂ ≡ true → (18 ≡ first (references (manifest_of s))) × Leaves s i₀ i₁
+    pub stops-18 : r₂ ≡ false → (18 ≡ first (references (manifest_of s))) × Leaves s i₀ i₁
     stops-18 n = (says-no 17 _ (said-no (schedule-answer t e₂.0) n) ∙ sym left-18, e₂.1)
 
-    module _ (n₂ : not r₂ ≡ false) {r₃ : Bool} {i₂ : List ℕ} (e₃ : (r₃ ≡ each_once (keys_listed 4 7 s i₁) (keys_listed 4 4 s i₁)) × Leaves s i₁ i₂) where
+    module _ (n₂ : r₂ ≡ true) {r₃ : Bool} {i₂ : List ℕ} (e₃ : (r₃ ≡ each_once (keys_listed 4 7 s i₁) (keys_listed 4 4 s i₁)) × Leaves s i₁ i₂) where
       left-19 : first (references (manifest_of s)) ≡ first (from-19 (manifest_of s))
       left-19 = left-18 ∙ says-yes 18 _ (said-yes (schedule-answer t e₂.0) n₂)
 
       leaves-19 : Leaves s i₀ i₂
       leaves-19 = leaves-then e₂.1 e₃.1
 
-      pub stops-19 : not r₃ ≡ true → (19 ≡ first (references (manifest_of s))) × Leaves s i₀ i₂
+      pub stops-19 : r₃ ≡ false → (19 ≡ first (references (manifest_of s))) × Leaves s i₀ i₂
       stops-19 n = (says-no 18 _ (said-no (order-answer e₂.1.tabled e₃.0) n) ∙ sym left-19, leaves-19)
 
-      module _ (n₃ : not r₃ ≡ false) {d c : ℕ} (i : d ≡ table_start 9 (manifest_of s) - table_start 8 (manifest_of s)) (j : c ≡ table_start 5 (manifest_of s) - table_start 4 (manifest_of s)) where
+      module _ (n₃ : r₃ ≡ true) {d c : ℕ} (i : d ≡ table_start 9 (manifest_of s) - table_start 8 (manifest_of s)) (j : c ≡ table_start 5 (manifest_of s) - table_start 4 (manifest_of s)) where
         left-20 : first (references (manifest_of s)) ≡ first (from-20 (manifest_of s))
         left-20 = left-19 ∙ says-yes 19 _ (said-yes (order-answer e₂.1.tabled e₃.0) n₃)
 
@@ -74,10 +74,10 @@ module _ {s i₀ : List ℕ} (t : Tabled s i₀) {r₁ : Bool} (e₁ : r₁ ≡ 
         stops-counted n = (says-no 19 _ (drivers-other e₃.1.tabled i j n) ∙ sym left-20, leaves-19)
 
         module _ (q : d ≡ c) {r₄ : Bool} (e₄ : r₄ ≡ all (holds_at s (connector_names (connectors_of (manifest_of s))) 8) (table_of 8 s i₂)) where
-          pub stops-20 : not r₄ ≡ true → (20 ≡ first (references (manifest_of s))) × Leaves s i₀ i₂
+          pub stops-20 : r₄ ≡ false → (20 ≡ first (references (manifest_of s))) × Leaves s i₀ i₂
           stops-20 n = (says-no 19 _ (said-no (drivers-answer e₃.1.tabled i j q e₄) n) ∙ sym left-20, leaves-19)
 
-          pub passes-20 : not r₄ ≡ false → (0 ≡ first (references (manifest_of s))) × Leaves s i₀ i₂
+          pub passes-20 : r₄ ≡ true → (0 ≡ first (references (manifest_of s))) × Leaves s i₀ i₂
           passes-20 n = (none_left ∙ sym (left-20 ∙ says-yes 20 _ (said-yes (drivers-answer e₃.1.tabled i j q e₄) n)), leaves-19)
 
 -- ---- 25 and 26
@@ -90,32 +90,32 @@ module _ (m : El manifest) where
   from-25 = refl
 
 module _ {s i₀ : List ℕ} (t : Tabled s i₀) {r₁ : Bool} (e₁ : r₁ ≡ all (holds_at s (connector_names (connectors_of (manifest_of s))) 10) (table_of 10 s i₀)) where
-  pub stops-directed : not r₁ ≡ true → (25 ≡ first (boundaries (manifest_of s))) × Leaves s i₀ i₀
-  stops-directed n = (says-no 24 _ (externals-other t e₁ (not-true r₁ n)) ∙ sym (from-25 (manifest_of s)), leaves_all t)
+  pub stops-directed : r₁ ≡ false → (25 ≡ first (boundaries (manifest_of s))) × Leaves s i₀ i₀
+  stops-directed n = (says-no 24 _ (externals-other t e₁ n) ∙ sym (from-25 (manifest_of s)), leaves_all t)
 
-  module _ (n₁ : not r₁ ≡ false) {r₂ : Bool} {i₁ : List ℕ} (e₂ : MarksListed 4 10 s r₂ i₀ i₁) where
+  module _ (n₁ : r₁ ≡ true) {r₂ : Bool} {i₁ : List ℕ} (e₂ : MarksListed 4 10 s r₂ i₀ i₁) where
     leaves-25 : Leaves s i₀ i₁
     leaves-25 = marks-leave (lists-externals t) e₂
 
     externals-said : r₂ ≡ externals_hold (external_inputs_of (manifest_of s)) (connectors_of (manifest_of s))
-    externals-said = externals-answer t e₁ (not-false r₁ n₁) e₂
+    externals-said = externals-answer t e₁ n₁ e₂
 
-    pub stops-25 : not r₂ ≡ true → (25 ≡ first (boundaries (manifest_of s))) × Leaves s i₀ i₁
+    pub stops-25 : r₂ ≡ false → (25 ≡ first (boundaries (manifest_of s))) × Leaves s i₀ i₁
     stops-25 n = (says-no 24 _ (said-no externals-said n) ∙ sym (from-25 (manifest_of s)), leaves-25)
 
-    module _ (n₂ : not r₂ ≡ false) {r₃ : Bool} (e₃ : r₃ ≡ all (holds_at s (connector_names (connectors_of (manifest_of s))) 11) (table_of 11 s i₁)) where
+    module _ (n₂ : r₂ ≡ true) {r₃ : Bool} (e₃ : r₃ ≡ all (holds_at s (connector_names (connectors_of (manifest_of s))) 11) (table_of 11 s i₁)) where
       left-26 : first (boundaries (manifest_of s)) ≡ first (from-26 (manifest_of s))
       left-26 = from-25 (manifest_of s) ∙ says-yes 25 _ (said-yes externals-said n₂)
 
-      pub stops-sources : not r₃ ≡ true → (26 ≡ first (boundaries (manifest_of s))) × Leaves s i₀ i₁
-      stops-sources n = (says-no 25 _ (outputs-other leaves-25.tabled e₃ (not-true r₃ n)) ∙ sym left-26, leaves-25)
+      pub stops-sources : r₃ ≡ false → (26 ≡ first (boundaries (manifest_of s))) × Leaves s i₀ i₁
+      stops-sources n = (says-no 25 _ (outputs-other leaves-25.tabled e₃ n) ∙ sym left-26, leaves-25)
 
-      module _ (n₃ : not r₃ ≡ false) {r₄ : Bool} {i₂ : List ℕ} (e₄ : (r₄ ≡ all_different (map output_name (boundary_outputs_of (manifest_of s)))) × Leaves s i₁ i₂) where
+      module _ (n₃ : r₃ ≡ true) {r₄ : Bool} {i₂ : List ℕ} (e₄ : (r₄ ≡ all_different (map output_name (boundary_outputs_of (manifest_of s)))) × Leaves s i₁ i₂) where
         outputs-said : r₄ ≡ outputs_hold (boundary_outputs_of (manifest_of s)) (connectors_of (manifest_of s))
-        outputs-said = outputs-answer leaves-25.tabled e₃ (not-false r₃ n₃) e₄.0
+        outputs-said = outputs-answer leaves-25.tabled e₃ n₃ e₄.0
 
-        pub stops-26 : not r₄ ≡ true → (26 ≡ first (boundaries (manifest_of s))) × Leaves s i₀ i₂
+        pub stops-26 : r₄ ≡ false → (26 ≡ first (boundaries (manifest_of s))) × Leaves s i₀ i₂
         stops-26 n = (says-no 25 _ (said-no outputs-said n) ∙ sym left-26, leaves-then leaves-25 e₄.1)
 
-        pub passes-26 : not r₄ ≡ false → (0 ≡ first (boundaries (manifest_of s))) × Leaves s i₀ i₂
+        pub passes-26 : r₄ ≡ true → (0 ≡ first (boundaries (manifest_of s))) × Leaves s i₀ i₂
         passes-26 n = (none_left ∙ sym (left-26 ∙ says-yes 26 _ (said-yes outputs-said n)), leaves-then leaves-25 e₄.1)

@@ -197,8 +197,8 @@ module _ {e : Section} {s old new : List ℕ} {from to marks : ℕ} {ks : List (
       go false true c = refl
       go false false c = refl
 
-  pub once-not : not r ≡ true → false ≡ each_once ks (keys_at e s old from to)
-  once-not n = sym (once_is ∙ (rw (not-true r n)))
+  pub once-not : r ≡ false → false ≡ each_once ks (keys_at e s old from to)
+  once-not n = sym (once_is ∙ (rw n))
 
-  pub once-all : not r ≡ false → {b : Bool} → b ≡ all is_set (span new marks (marks + (to - from))) → b ≡ each_once ks (keys_at e s old from to)
-  once-all n i = let y : r ≡ true = not-false r n in i ∙ m.whole y ∙ sym (once_is ∙ (rw y))
+  pub once-all : r ≡ true → {b : Bool} → b ≡ all is_set (span new marks (marks + (to - from))) → b ≡ each_once ks (keys_at e s old from to)
+  once-all n i = let y : r ≡ true = n in i ∙ m.whole y ∙ sym (once_is ∙ (rw y))

@@ -116,10 +116,10 @@ module _ {section listed : ℕ} {s old new : List ℕ} {r : Bool} (l : Lists sec
   pub marks-leave : Leaves s old new
   marks-leave = tabled-kept _ _ l.tabled m.kept (omega arith)
 
-  pub each-not : not r ≡ true → (false ≡ each_once (keys_listed section listed s old) (keys_listed section section s old)) × Leaves s old new
+  pub each-not : r ≡ false → (false ≡ each_once (keys_listed section listed s old) (keys_listed section section s old)) × Leaves s old new
   each-not n = (once-not m n, marks-leave)
 
-  pub each_all : not r ≡ false → {marks count : ℕ} {b : Bool} → marks ≡ room_start s → count ≡ table_start (suc section) (manifest_of s) - table_start section (manifest_of s)
+  pub each_all : r ≡ true → {marks count : ℕ} {b : Bool} → marks ≡ room_start s → count ≡ table_start (suc section) (manifest_of s) - table_start section (manifest_of s)
       → b ≡ all is_set (span new marks (marks + count))
       → (b ≡ each_once (keys_listed section listed s old) (keys_listed section section s old)) × Leaves s old new
   each_all n i j e = (once-all m n (rw (i, j) at e), marks-leave)

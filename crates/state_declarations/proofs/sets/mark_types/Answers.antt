@@ -1,0 +1,40 @@
+use mathlib.Core.Path.{refl, ◌∙◌}
+use Rattle.state_declarations.proofs.Meeting.{marking-start, words-marked, words-failed, words-ended}
+use Rattle.state_declarations.proofs.Naming.{types_of}
+use Rattle.state_declarations.proofs.Parts.{type-class}
+use Rattle.format.specs.Values.{value_at}
+use Rattle.format.specs.Manifest.{entry, connectors}
+use native.Mathlib.Omega.{arith}
+use Prim.Native.Nat.{◌-◌}
+use Rattle.state_declarations.proofs.sets.mark_types.Goals as goal
+
+pub loop-i-init : goal.loop-i-init
+loop-i-init c = marking-start c.requires.keyed refl
+
+pub word_at-requires : goal.word_at-requires
+word_at-requires c = omega (arith, c.loop-i.invariant.keyed.fits, c.requires.end_le_marks)
+
+pub mark_class-f-requires : goal.mark_class-f-requires
+mark_class-f-requires c = c.loop-i.invariant.keyed
+
+pub shape_of-index-in_default : goal.shape_of-index-in_default
+shape_of-index-in_default c =
+    c.mark_class-f.ensures.kept.long ∙ c.loop-i.invariant.kept.long
+
+pub returns-in_default : goal.returns-in_default
+returns-in_default c =
+    words-failed (value_at (entry connectors) c.args.s.now) types_of c.loop-i.invariant c.loop-i-test.true c.requires.end_le_marks
+    c.word_at.ensures (rw (type-class _ _ c.connector_type_at-at.ensures) c.mark_class-f.ensures)
+    c.in_default.is
+
+pub loop-i-preserved : goal.loop-i-preserved
+loop-i-preserved c =
+    words-marked (value_at (entry connectors) c.args.s.now) types_of c.loop-i.invariant c.loop-i-test.true c.requires.end_le_marks
+    c.word_at.ensures (rw (type-class _ _ c.connector_type_at-at.ensures) c.mark_class-f.ensures)
+    c.in-At.is
+
+pub shape_of-index : goal.shape_of-index
+shape_of-index c = c.loop-i.invariant.kept.long
+
+pub returns : goal.returns
+returns c = words-ended (value_at (entry connectors) c.args.s.now) types_of c.loop-i.invariant c.loop-i-test.false _
