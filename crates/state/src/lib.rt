@@ -1,7 +1,6 @@
 // The types that all crates share: answers, the section starts, and the numbers that stand on the wire.
 #![tactic(auto)]
 
-
 // The longest manifest, and the highest limit of a string.
 pub const MAX_SNAPSHOT_BYTES: usize = 67108864;
 

@@ -16,7 +16,6 @@ use Rattle.format.specs.Manifest.{counted, enums, connectors, manifest}
 use Rattle.format.specs.Fields.{Entry, enums_of, connectors_of, slots_of}
 use Rattle.format.proofs.Refusals.{Late, read-so, refused-so, late-question, late-ask, late-bind, late-read}
 use Rattle.format.proofs.Values.{self}
-use Rattle.questions.specs.Sets.{◌unless◌}
 use Rattle.questions.specs.Answers.{judge}
 use Rattle.questions.specs.Units.{word_total}
 use Rattle.questions.proofs.Numbers.{Of, unless-of, first_of, all_of, of-inside}

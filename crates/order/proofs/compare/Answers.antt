@@ -1,6 +1,5 @@
 use Rattle.order.proofs.Steps.{one_more, found}
 use Rattle.order.proofs.Laws.{both_end, left-ends, right-ends, below, above}
-use Prim.Native.Nat.{◌-◌}
 use mathlib.Core.Path.{refl}
 use native.Mathlib.Omega.{arith}
 use Rattle.order.proofs.compare.Goals as goal

@@ -16,13 +16,13 @@ loop-i-preserved c =
       omega arith,
       λ z.
           elim c.if-a-at.branch [
-            then-a-at w ↦ absurd (omega arith)
-          | else-a-at w ↦ rw (← add_assoc) (one_more r.a.now r.b.now (r.at + l.i) (l.invariant.1 (omega arith)) (omega arith) (omega arith) (omega arith))
+            | then-a-at w ↦ absurd (omega arith)
+            | else-a-at w ↦ rw (← add_assoc) (one_more r.a.now r.b.now (r.at + l.i) (l.invariant.1 (omega arith)) (omega arith) (omega arith) (omega arith))
           ],
       λ z.
           elim c.if-a-at.branch [
-            then-a-at w ↦ absurd (omega (arith, same-there r.a.now r.b.now (r.at + l.i) (shorter-front r.a.now r.b.now (r.at + l.i + 1) (r.at + (l.i + 1)) (omega arith) z)))
-          | else-a-at w ↦ omega (arith, l.invariant.2 (shorter-front r.a.now r.b.now (r.at + l.i) (r.at + (l.i + 1)) (omega arith) z))
+            | then-a-at w ↦ absurd (omega (arith, same-there r.a.now r.b.now (r.at + l.i) (shorter-front r.a.now r.b.now (r.at + l.i + 1) (r.at + (l.i + 1)) (omega arith) z)))
+            | else-a-at w ↦ omega (arith, l.invariant.2 (shorter-front r.a.now r.b.now (r.at + l.i) (r.at + (l.i + 1)) (omega arith) z))
           ],
     )
 

@@ -7,7 +7,6 @@ use native.Mathlib.Omega.{arith}
 use mathlib.Core.List.{List}
 use mathlib.Core.Path.{refl, sym, ap}
 use lib.ListN.{length}
-use Prim.Native.Nat.{◌-◌}
 use Rattle.order.proofs.same.Goals as goal
 
 pub returns-then-b-end : goal.returns-then-b-end

@@ -1,5 +1,4 @@
 use Rattle.state_index.proofs.Search.{between-all, between-high, between-low, finds-at, finds-nothing, compared-with}
-use Prim.Native.Nat.{◌-◌}
 use native.Mathlib.Omega.{arith}
 use Rattle.state_index.proofs.binary_search.Goals as goal
 

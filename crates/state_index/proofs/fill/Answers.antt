@@ -1,6 +1,6 @@
 use lib.ListN.{set, length-set}
 use native.Mathlib.Omega.{arith}
-use Prim.Native.Nat.{ℕ, ◌-◌}
+use Prim.Native.Nat.{ℕ}
 use mathlib.Core.List.{List}
 use mathlib.Core.Path.{◌≡◌, refl, ap, ◌∙◌}
 use Rattle.state_index.proofs.Lists.{filled_none, filled_more}
@@ -22,13 +22,12 @@ pub loop-i-smaller : goal.loop-i-smaller
 loop-i-smaller c = omega arith
 
 pub loop-i-preserved : goal.loop-i-preserved
-loop-i-preserved c =
-    (
-      omega arith,
-      omega arith,
-      simp length-set c.loop-i.invariant.2,
-      ap (λ (r : List ℕ). set r c.loop-i.i c.args.x) c.loop-i.invariant.3 ∙ filled_more c.args.x c.args.from c.loop-i.i c.args.index.now (omega arith) (omega arith),
-    )
+loop-i-preserved c = (
+  omega arith,
+  omega arith,
+  simp length-set c.loop-i.invariant.2,
+  ap (λ (r : List ℕ). set r c.loop-i.i c.args.x) c.loop-i.invariant.3 ∙ filled_more c.args.x c.args.from c.loop-i.i c.args.index.now (omega arith) (omega arith),
+)
 
 pub shape_of-index : goal.shape_of-index
 shape_of-index c = c.loop-i.invariant.2

@@ -7,8 +7,8 @@ pub returns-then-section-le-ENUMS : goal.returns-then-section-le-ENUMS
 returns-then-section-le-ENUMS c =
     key-past _ _ _
     (elim c.then-section-le-ENUMS.branch [
-      then-section-le-ENUMS-via-then-section-le-ENUMS w ↦ key-low w.if-section-le-ENUMS.true
-    | then-section-le-ENUMS-via-else-section-le-ENUMS+then-section-gt-EXTERNAL_INPUTS w ↦ key-high w.if-section-gt-EXTERNAL_INPUTS.true
+      | then-section-le-ENUMS-via-then-section-le-ENUMS w ↦ key-low w.if-section-le-ENUMS.true
+      | then-section-le-ENUMS-via-else-section-le-ENUMS+then-section-gt-EXTERNAL_INPUTS w ↦ key-high w.if-section-gt-EXTERNAL_INPUTS.true
     ])
     c.text_end.ensures
 
@@ -19,9 +19,9 @@ pub returns-then-section-eq-BLOCKS : goal.returns-then-section-eq-BLOCKS
 returns-then-section-eq-BLOCKS c =
     key-past _ _ _
     (elim c.then-section-eq-BLOCKS.branch [
-      then-section-eq-BLOCKS-via-then-section-eq-BLOCKS w ↦ key-block (inl w.if-section-eq-BLOCKS.true)
-    | then-section-eq-BLOCKS-via-else-section-eq-BLOCKS+then-section-eq-SCHEDULE w ↦ key-block (inr (inl w.if-section-eq-SCHEDULE.true))
-    | then-section-eq-BLOCKS-via-else-section-eq-BLOCKS+else-section-eq-SCHEDULE+then-section-eq-STATE_SLOTS w ↦ key-block (inr (inr w.if-section-eq-STATE_SLOTS.true))
+      | then-section-eq-BLOCKS-via-then-section-eq-BLOCKS w ↦ key-block (inl w.if-section-eq-BLOCKS.true)
+      | then-section-eq-BLOCKS-via-else-section-eq-BLOCKS+then-section-eq-SCHEDULE w ↦ key-block (inr (inl w.if-section-eq-SCHEDULE.true))
+      | then-section-eq-BLOCKS-via-else-section-eq-BLOCKS+else-section-eq-SCHEDULE+then-section-eq-STATE_SLOTS w ↦ key-block (inr (inr w.if-section-eq-STATE_SLOTS.true))
     ])
     c.block_key_end.ensures
 

@@ -1,5 +1,4 @@
 use Rattle.text.proofs.Steps.{stay, onward}
-use Prim.Native.Nat.{◌-◌}
 use native.Mathlib.Omega.{arith}
 use Rattle.text.proofs.text_run.Goals as goal
 

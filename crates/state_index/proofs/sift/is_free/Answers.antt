@@ -1,6 +1,4 @@
 use Rattle.state_index.proofs.Slots.{free_own, not_free}
-use Rattle.state_index.proofs.sift.is_free.Reads as reads
-use Rattle.state_index.proofs.sift.is_free.Lts as lts
 use Rattle.state_index.proofs.sift.is_free.Goals as goal
 
 pub returns-then-v-first : goal.returns-then-v-first

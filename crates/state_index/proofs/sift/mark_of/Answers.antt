@@ -1,11 +1,6 @@
 use Prim.Native.Nat.{◌<◌}
 use native.Mathlib.Omega.{arith}
 use Rattle.state_index.proofs.Slots.{spread-below, mark-short, mark-long}
-use Rattle.state_index.proofs.sift.mark_of.Reads as reads
-use Rattle.state_index.proofs.sift.mark_of.Lts as lts
-use Rattle.state_index.proofs.keys.number_at.Reads as number-at-reads
-use Rattle.state_index.proofs.sift.mix.Reads as mix-reads
-use Rattle.state_index.proofs.sift.roll.Reads as roll-reads
 use Rattle.std.proofs.Common.{rules}
 use Rattle.state_index.proofs.sift.mark_of.Goals as goal
 

@@ -1,6 +1,4 @@
 use Rattle.state_index.proofs.Slots.{mixed}
-use Rattle.state_index.proofs.sift.mix.Reads as reads
-use Rattle.state_index.proofs.sift.mix.Lts as lts
 use Rattle.state_index.proofs.sift.mix.Goals as goal
 
 pub returns : goal.returns

@@ -1,5 +1,4 @@
 use native.Mathlib.Omega.{arith}
-use Prim.Native.Nat.{◌-◌}
 use Rattle.text.proofs.Steps.{stay, onward, ascii-passed}
 use Rattle.text.proofs.ascii.ascii_blocks.Goals as goal
 

@@ -1,5 +1,4 @@
 use Rattle.text.proofs.Steps.{stay, onward, passes-ascii}
-use Prim.Native.Nat.{◌-◌}
 use native.Mathlib.Omega.{arith}
 use Rattle.text.proofs.ascii.ascii_bytes.Goals as goal
 

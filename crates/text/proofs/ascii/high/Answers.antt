@@ -1,7 +1,7 @@
 use native.Mathlib.Omega.{arith}
 use borrow.Author.Count.{below_more}
 use lib.ListN.{get_or}
-use Prim.Native.Nat.{ℕ, ◌≤◌, ◌+◌, ◌-◌}
+use Prim.Native.Nat.{ℕ, ◌≤◌, ◌+◌}
 use Rattle.text.proofs.ascii.high.Goals as goal
 use Rattle.text.proofs.ascii.high.Goals.{else-most-b, then-most-b}
 

@@ -1,7 +1,7 @@
 use Rattle.text.proofs.Blocks.{clean-part}
 use Rattle.text.proofs.Blocks.{clean-none, clean-next, clean_at}
 use Rattle.text.proofs.Blocks.{neither}
-use Prim.Native.Nat.{◌+◌, ◌-◌}
+use Prim.Native.Nat.{◌+◌}
 use native.Mathlib.Omega.{arith}
 use Rattle.text.proofs.runs.broken.Goals as goal
 

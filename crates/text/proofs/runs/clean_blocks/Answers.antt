@@ -1,6 +1,5 @@
 use Rattle.text.proofs.Blocks.{clean-none, clean-more}
 use mathlib.Core.Path.{refl}
-use Prim.Native.Nat.{◌-◌}
 use native.Mathlib.Omega.{arith}
 use Rattle.text.proofs.runs.clean_blocks.Goals as goal
 
