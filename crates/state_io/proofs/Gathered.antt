@@ -9,7 +9,7 @@ use lib.ListN.{length, get_or, set, take, drop}
 use lib.Seq.{get_or-take, take-suc-set, drop-append-le, length-take-le}
 use Rattle.state.specs.Bytes.{span}
 use Rattle.state.proofs.Bytes.{span-cons, span-nil}
-use Rattle.format.specs.Lists.{same, is_in}
+use Rattle.format.specs.Lists.{is_in}
 use Rattle.format.specs.Keys.{connector_key}
 use Rattle.format.specs.Manifest.{connectors, external_inputs, numbered}
 use Rattle.format.specs.Places.{past, key_at}

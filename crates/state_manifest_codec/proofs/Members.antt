@@ -1,5 +1,5 @@
 -- The members of a class: their texts are read one after another, and then asked whether they are all different.
-use Prim.Native.Nat.{ℕ, zero, suc, ◌+◌, ◌-◌, ◌≤◌}
+use Prim.Native.Nat.{ℕ, zero, suc, ◌+◌, ◌≤◌}
 use mathlib.Core.Path.{◌≡◌, refl, sym, ap, ◌∙◌}
 use mathlib.Core.Bool.{Bool, true, false}
 use mathlib.Core.List.{List, [], ◌∷◌, ◌++◌, map, append-nil}
@@ -10,7 +10,7 @@ use Rattle.state.specs.declared.Step.{Step}
 use Rattle.state.specs.declared.Step.TheVariants as step
 use Rattle.state.proofs.Outcome.{onward, asked, step-ask, step-yields}
 use Rattle.format.specs.Lists.{all_different}
-use Rattle.format.specs.Format.{plain, free, distinct, text, done, ◌then◌, read, scan, scan_entries}
+use Rattle.format.specs.Format.{plain, free, distinct, text, done, ◌then◌, scan, scan_entries}
 use Rattle.format.specs.Places.{end_at, starts}
 use Rattle.format.proofs.Steps.{done-step}
 use Rattle.state_manifest_codec.proofs.Filling.{entry-end, fills-before, fills-table, fills-front, fills-stop}

@@ -10,7 +10,6 @@ use Rattle.state.specs.declared.Step.{Step}
 use Rattle.state.specs.declared.Step.TheVariants as step
 use Rattle.state.proofs.Outcome.{onward, always, step-yields}
 use Rattle.format.specs.Format.{scan, read}
-use Rattle.format.specs.Least.{least}
 use Rattle.format.specs.Manifest.{Section, numbered, counted, entry, lists, input_definitions, portability, sequence, manifest}
 use Rattle.format.specs.Places.{count_at, end_of, end_at, starts, section_starts, entry_starts, manifest_starts, manifest_entries}
 use Rattle.format.proofs.Bounds.{list-takes, list_counts, next-within}

@@ -2,8 +2,7 @@
 use Prim.Native.Nat.{ℕ, ◌+◌, ◌-◌, ◌≤◌, ◌<◌}
 use native.Mathlib.Omega.{arith}
 use mathlib.Core.Path.{◌≡◌, refl, ap, ◌∙◌}
-use mathlib.Core.Bool.{Bool, true, false, not, cond}
-use borrow.Author.Tests.{not-true, not-false}
+use mathlib.Core.Bool.{Bool, true, false, cond}
 use mathlib.Core.List.{List, [], ◌++◌}
 use lib.ListN.{length, take, set}
 use Rattle.state.specs.Bytes.{span}
@@ -14,7 +13,6 @@ use Rattle.state.specs.declared.Field.{Field}
 use Rattle.state.specs.declared.Field.TheVariants as field
 use Rattle.state_wire.specs.Fields.{read_count}
 use Rattle.format.specs.Format.{above, scan}
-use Rattle.format.specs.Least.{least}
 use Rattle.format.specs.Manifest.{numbered, counted, entry}
 use Rattle.format.specs.Places.{count_at, starts}
 use Rattle.format.proofs.Bounds.{next-within}

@@ -1,9 +1,8 @@
 -- The questions one after another, and what they leave of the index.
 use Prim.Native.Nat.{ℕ, ◌-◌}
 use mathlib.Core.Path.{◌≡◌, refl, sym, ◌∙◌}
-use mathlib.Core.Bool.{Bool, true, false, not}
+use mathlib.Core.Bool.{Bool, true, false}
 use mathlib.Core.List.{List, [], ◌∷◌, map}
-use borrow.Author.Tests.{not-true, not-false}
 use Rattle.format.specs.Lists.{all_different}
 use Rattle.format.specs.Format.{El}
 use Rattle.format.specs.Manifest.{manifest}

@@ -14,8 +14,11 @@ blocks_answer-question-requires c = let p = c.requires in record { are_bytes = p
 
 pub returns-then-question-ne0 : goal.returns-then-question-ne0
 returns-then-question-ne0 c =
-    let p = c.requires in record { value = says-block _ (members-are p c.members_there.ensures) c.if-not-members_there.false (blocks-are p c.blocks_answer-question.ensures)
-          c.if-question-ne0.true; leaves = leaves_all p.tabled }
+    let p = c.requires in record {
+      value = says-block _ (members-are p c.members_there.ensures) c.if-not-members_there.false (blocks-are p c.blocks_answer-question.ensures)
+          c.if-question-ne0.true;
+      leaves = leaves_all p.tabled;
+    }
 
 pub ports_are-requires : goal.ports_are-requires
 ports_are-requires c =
@@ -25,8 +28,11 @@ ports_are-requires c =
 pub returns-then-not-ports_are : goal.returns-then-not-ports_are
 returns-then-not-ports_are c =
     let p = c.requires in
-    let k = placed-kept p c.ports_are.ensures.kept in record { value = says-15 _ (members-are p c.members_there.ensures) c.if-not-members_there.false
-          (blocks-are p c.blocks_answer-question.ensures) c.if-question-ne0.false (ports-same p c.ports_are.ensures.value) c.if-not-ports_are.true; leaves = k.1 }
+    let k = placed-kept p c.ports_are.ensures.kept in record {
+      value = says-15 _ (members-are p c.members_there.ensures) c.if-not-members_there.false
+          (blocks-are p c.blocks_answer-question.ensures) c.if-question-ne0.false (ports-same p c.ports_are.ensures.value) c.if-not-ports_are.true;
+      leaves = k.1;
+    }
 
 pub classes_are-requires : goal.classes_are-requires
 classes_are-requires c =
@@ -37,14 +43,20 @@ pub returns-then-not-classes_are : goal.returns-then-not-classes_are
 returns-then-not-classes_are c =
     let p = c.requires in
     let k = placed-kept p c.ports_are.ensures.kept in
-    let l = placed-kept k.0 c.classes_are.ensures.kept in record { value = says-16 _ (members-are p c.members_there.ensures) c.if-not-members_there.false
+    let l = placed-kept k.0 c.classes_are.ensures.kept in record {
+      value = says-16 _ (members-are p c.members_there.ensures) c.if-not-members_there.false
           (blocks-are p c.blocks_answer-question.ensures) c.if-question-ne0.false (ports-same p c.ports_are.ensures.value)
-          c.if-not-ports_are.false (classes-same k.0 c.classes_are.ensures.value) c.if-not-classes_are.true; leaves = leaves-then k.1 l.1 }
+          c.if-not-ports_are.false (classes-same k.0 c.classes_are.ensures.value) c.if-not-classes_are.true;
+      leaves = leaves-then k.1 l.1;
+    }
 
 pub returns : goal.returns
 returns c =
     let p = c.requires in
     let k = placed-kept p c.ports_are.ensures.kept in
-    let l = placed-kept k.0 c.classes_are.ensures.kept in record { value = says_none _ (members-are p c.members_there.ensures) c.if-not-members_there.false
+    let l = placed-kept k.0 c.classes_are.ensures.kept in record {
+      value = says_none _ (members-are p c.members_there.ensures) c.if-not-members_there.false
           (blocks-are p c.blocks_answer-question.ensures) c.if-question-ne0.false (ports-same p c.ports_are.ensures.value)
-          c.if-not-ports_are.false (classes-same k.0 c.classes_are.ensures.value) c.if-not-classes_are.false; leaves = leaves-then k.1 l.1 }
+          c.if-not-ports_are.false (classes-same k.0 c.classes_are.ensures.value) c.if-not-classes_are.false;
+      leaves = leaves-then k.1 l.1;
+    }

@@ -4,7 +4,6 @@ use Rattle.state_declarations.proofs.Walks.{words-next, words-end}
 use Rattle.questions.specs.Declarations.{has_member}
 use Rattle.format.specs.Values.{value_at}
 use Rattle.format.specs.Manifest.{entry, enums}
-use Prim.Native.Nat.{◌-◌}
 use mathlib.Core.Path.{refl}
 use Rattle.state_declarations.proofs.members_there.Goals as goal
 

@@ -1,4 +1,3 @@
-use Prim.Native.Nat.{◌-◌}
 use native.Mathlib.Omega.{arith}
 use Rattle.state_layout.proofs.Indexed.{reach-start, reach-word, reach-next, reach-end, reach-fits}
 use Rattle.state_layout.proofs.table_start.Goals as goal

@@ -1,5 +1,4 @@
 use mathlib.Core.Path.{refl, ◌∙◌}
-use Prim.Native.Nat.{◌-◌}
 use native.Mathlib.Omega.{arith}
 use Rattle.state_manifest_codec.proofs.Filling.{fills-stop}
 use Rattle.state_manifest_codec.proofs.Sections.{first-long, fills-stored, manifest-stop, reading-start, reading-word, reading-room, reading-long, reading-stop, reading-takes, reading-on, reading-end}

@@ -2,7 +2,6 @@ use Rattle.state_portability.proofs.Padded.{missed-next, missed-found, missed-al
 use Rattle.questions.specs.Portability.{target_bound_classes}
 use mathlib.Core.Path.{refl}
 use native.Mathlib.Omega.{arith}
-use Prim.Native.Nat.{◌-◌}
 use Rattle.state_portability.proofs.requires_target.Goals as goal
 
 pub loop-row-init : goal.loop-row-init

@@ -1,7 +1,6 @@
 use Rattle.state_portability.proofs.Bounding.{bound-found, bound-next, bound-none}
 use mathlib.Core.Path.{refl}
 use native.Mathlib.Omega.{arith}
-use Prim.Native.Nat.{◌-◌}
 use Rattle.state_portability.proofs.some_requires_target.Goals as goal
 
 pub loop-i-init : goal.loop-i-init

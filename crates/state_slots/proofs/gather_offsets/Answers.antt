@@ -3,7 +3,6 @@ use Rattle.state_slots.proofs.Offsets.{key-within, gather-start, gather-on, gath
 use Rattle.format.specs.Places.{past}
 use Rattle.format.specs.Keys.{block_key}
 use native.Mathlib.Omega.{arith}
-use Prim.Native.Nat.{◌-◌}
 use Rattle.state_slots.proofs.gather_offsets.Goals as goal
 
 pub loop-i-init : goal.loop-i-init

@@ -1,6 +1,5 @@
 use Rattle.state_slots.proofs.Walks.{next_here, next-on, next-none}
 use native.Mathlib.Omega.{arith}
-use Prim.Native.Nat.{◌-◌}
 use mathlib.Core.Path.{refl}
 use Rattle.state_slots.proofs.next_stateful.Goals as goal
 

@@ -2,7 +2,6 @@ use mathlib.Core.List.{◌∷◌}
 use Rattle.state_slots.proofs.Walks.{walk_start, walk_none, walk_pair, walk-on, walk_end, answers-none, answers-over, answers-this, answers-on}
 use Rattle.state_slots.specs.Walk.{answers_at}
 use native.Mathlib.Omega.{arith}
-use Prim.Native.Nat.{◌-◌}
 use Rattle.state_slots.proofs.slot_answers.Goals as goal
 
 pub loop-slot-init : goal.loop-slot-init

@@ -1,7 +1,6 @@
 use Rattle.state_slots.proofs.Walks.{walk_start, walk_none, walk_pair, walk-on, walk-left, walk-over, agree-none, agree_left, agree-over, agree-not, agree_on}
 use Rattle.state_slots.specs.Walk.{keys_agree}
 use native.Mathlib.Omega.{arith}
-use Prim.Native.Nat.{◌-◌}
 use Rattle.state_slots.proofs.slot_keys_are.Goals as goal
 
 pub loop-slot-init : goal.loop-slot-init

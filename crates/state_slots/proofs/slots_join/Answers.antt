@@ -1,6 +1,5 @@
 use Rattle.state_slots.proofs.Offsets.{chain-start, chain-no, chain-small, chain-on, chain-end}
 use native.Mathlib.Omega.{arith}
-use Prim.Native.Nat.{◌-◌}
 use Rattle.state_slots.proofs.slots_join.Goals as goal
 
 pub loop-i-init : goal.loop-i-init

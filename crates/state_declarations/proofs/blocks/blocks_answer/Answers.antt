@@ -1,7 +1,6 @@
 use Rattle.state_declarations.proofs.Holds.{block-well, blocks-next, blocks-no, blocks_end}
 use native.Mathlib.Omega.{arith}
 use mathlib.Core.Path.{refl}
-use Prim.Native.Nat.{◌-◌}
 use Rattle.state_declarations.proofs.blocks.blocks_answer.Goals as goal
 
 pub loop-i-init : goal.loop-i-init

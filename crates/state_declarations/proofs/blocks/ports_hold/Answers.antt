@@ -1,6 +1,5 @@
 use Rattle.state_declarations.proofs.Holds.{ports-start, port-well, ports-next, ports-no, ports-end}
 use mathlib.Core.Path.{sym, ◌∙◌}
-use Prim.Native.Nat.{◌-◌}
 use Rattle.state_declarations.proofs.blocks.ports_hold.Goals as goal
 
 pub loop-i-init : goal.loop-i-init

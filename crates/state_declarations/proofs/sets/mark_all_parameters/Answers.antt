@@ -4,7 +4,6 @@ use Rattle.questions.specs.Declarations.{param_classes}
 use Rattle.format.specs.Values.{value_at}
 use Rattle.format.specs.Manifest.{entry, blocks}
 use native.Mathlib.Omega.{arith}
-use Prim.Native.Nat.{◌-◌}
 use Rattle.state_declarations.proofs.sets.mark_all_parameters.Goals as goal
 
 pub loop-i-init : goal.loop-i-init

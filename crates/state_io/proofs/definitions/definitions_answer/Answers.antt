@@ -1,7 +1,6 @@
 use Rattle.state_io.proofs.Firsts.{first-here, first-later, first-end}
 use Rattle.state_io.proofs.Defined.{answer_of}
 use mathlib.Core.Path.{refl, ◌∙◌}
-use Prim.Native.Nat.{◌-◌}
 use native.Mathlib.Omega.{arith}
 use Rattle.state_io.proofs.definitions.definitions_answer.Goals as goal
 

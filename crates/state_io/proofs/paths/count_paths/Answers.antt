@@ -1,5 +1,4 @@
 use Rattle.state_io.proofs.Words.{runs-next, runs-end, differ-few}
-use Prim.Native.Nat.{◌-◌}
 use native.Mathlib.Omega.{arith}
 use Rattle.state_io.proofs.paths.count_paths.Goals as goal
 

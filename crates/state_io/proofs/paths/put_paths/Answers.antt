@@ -1,6 +1,5 @@
 use Rattle.state_io.proofs.Gathered.{path-within}
 use Rattle.state_io.proofs.Gathered.{putting-start, putting-skip, putting-next, putting-end, mark-there, word-there, place-there}
-use Prim.Native.Nat.{◌-◌}
 use native.Mathlib.Omega.{arith}
 use Rattle.state_io.proofs.paths.put_paths.Goals as goal
 

@@ -1,6 +1,5 @@
 use Rattle.state_io.proofs.Words.{agree-no, agree-yes, agree-end}
 use mathlib.Core.Path.{refl, ◌∙◌}
-use Prim.Native.Nat.{◌-◌}
 use native.Mathlib.Omega.{arith}
 use Rattle.state_io.proofs.paths.types_agree.Goals as goal
 

@@ -1,7 +1,6 @@
 use mathlib.Core.Path.{◌∙◌}
 use Rattle.state_layout.proofs.Hinting.{cleared-then}
 use Rattle.state_layout.proofs.Kept.{kept_refl, kept_trans, kept-widen}
-use Prim.Native.Nat.{◌-◌}
 use native.Mathlib.Omega.{arith}
 use Rattle.state_layout.proofs.hints.put_all.Goals as goal
 

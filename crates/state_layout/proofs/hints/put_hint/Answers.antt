@@ -2,7 +2,7 @@ use mathlib.Core.Path.{◌∙◌}
 use Rattle.state_layout.proofs.Kept.{kept_refl, kept_trans, set-kept}
 use Rattle.state_layout.proofs.Kept.{kept_refl, set-kept}
 use lib.ListN.{length-set}
-use Prim.Native.Nat.{◌+◌, ◌-◌}
+use Prim.Native.Nat.{◌+◌}
 use native.Mathlib.Omega.{arith}
 use Rattle.state_layout.proofs.hints.put_hint.Goals as goal
 

@@ -1,6 +1,5 @@
 use Rattle.state_references.proofs.Telling.{all-next, all-stop, all_end}
 use native.Mathlib.Omega.{arith}
-use Prim.Native.Nat.{◌-◌}
 use mathlib.Core.Path.{refl}
 use Rattle.state_references.proofs.entries.all_hold.Goals as goal
 

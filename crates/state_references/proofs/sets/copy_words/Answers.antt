@@ -1,6 +1,5 @@
 use Rattle.state_references.proofs.Copied.{copies-start, copies-next, copies-end}
 use native.Mathlib.Omega.{arith}
-use Prim.Native.Nat.{◌-◌}
 use Rattle.state_references.proofs.sets.copy_words.Goals as goal
 
 pub loop-i-init : goal.loop-i-init

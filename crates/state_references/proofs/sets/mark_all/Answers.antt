@@ -1,6 +1,5 @@
 use Rattle.state_references.proofs.Meeting.{meets-start, meets-fits, meets-next, meets-stop, meets-end}
 use native.Mathlib.Omega.{arith}
-use Prim.Native.Nat.{◌-◌}
 use Rattle.state_references.proofs.sets.mark_all.Goals as goal
 
 pub loop-i-init : goal.loop-i-init
