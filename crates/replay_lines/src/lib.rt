@@ -1,5 +1,7 @@
 // Words, numbers and bytes in the lines that the replaying programs read.
 
+#![tactic(auto)]
+
 // The position after the next space or line end.
 pub fn after_word(s: &[u8], at: usize) -> usize {
     let mut i = at;
