@@ -1,7 +1,11 @@
 // Reads one manifest from standard input and prints what the hand-over desk bills: `accepted`, the state words and the units; or
 // `refused`, the number of the question and the offset. Base 0, revision 2.
+#![tactic(auto)]
+
 use state::Units;
 use state_wire::part;
+use std::io;
+use std::io::Read;
 
 // The most bytes that are read, and the index words that they need.
 const MOST: usize = 16384;
@@ -9,29 +13,27 @@ const MOST: usize = 16384;
 const WORDS: usize = 8208;
 
 // A word and two numbers on a line.
-fn print_line(word: &[u8], first: u64, second: u64) {
-    io::write_all(1, word);
-    io::write_all(1, b" ");
-    io::print_decimal(1, first);
-    io::write_all(1, b" ");
-    io::print_decimal(1, second);
-    io::write_all(1, b"\n");
+fn print_line(rt: &impl Print, word: &str, first: u64, second: u64) -> io::Result<()> {
+    println!(rt; "{word} {first} {second}")
 }
 
-fn print_units(units: Units) {
+fn print_units(rt: &impl Print, units: Units) -> io::Result<()> {
     match units {
-        Units::Of(words, total) => print_line(b"accepted", words, total),
-        Units::Refused(question, offset) => print_line(b"refused", question as u64, offset),
+        Units::Of(words, total) => print_line(rt, "accepted", words, total),
+        Units::Refused(question, offset) => print_line(rt, "refused", u64::from(question), offset),
     }
 }
 
-fn main() {
+fn main(rt: HostRuntime) -> io::Result<()> {
     let mut bytes = [0u8; MOST + 1];
     let mut index = [0u32; WORDS];
-    let n = io::read_full(0, &mut bytes);
+    let mut room = &mut bytes[..];
+    let n = io::copy(&mut rt.reader().take(MOST as u64 + 1), &mut room)? as usize;
     if MOST < n {
-        io::write_all(1, b"too long\n");
-        return;
+        return println!(rt; "too long");
     }
-    print_units(state_manifest::units(part(&bytes, 0, n), 0, 2, &mut index));
+    print_units(
+        &rt,
+        state_manifest::units(part(&bytes, 0, n), 0, 2, &mut index),
+    )
 }
