@@ -11,11 +11,15 @@
 //   o HEX HEX                the order of two byte strings:       less N, equal N, greater N, where N bytes agree
 //   b HEX HEX                the order of two block keys:         less N .., left refused .., right refused ..
 //   k HEX HEX                the order of two connector keys:     likewise
+#![tactic(auto)]
+
 use order::Order;
 use replay_lines::{after_word, bytes, number, position};
 use state::{Field, Step};
 use state_key_order::KeysCompared;
 use state_wire::part;
+use std::io;
+use std::io::Read;
 
 // The most bytes of standard input, and of one HEX.
 const INPUT: usize = 262144;
@@ -23,110 +27,95 @@ const INPUT: usize = 262144;
 const SIZE: usize = 1024;
 
 // A number that ends its line.
-fn print_last(n: usize) {
-    io::print_decimal(1, n as u64);
-    io::write_all(1, b"\n");
+fn print_last(rt: &impl Print, n: usize) -> io::Result<()> {
+    println!(rt; "{n}")
 }
 
-fn print_refused(question: u8, position: usize) {
-    io::write_all(1, b"refused ");
-    io::print_decimal(1, question as u64);
-    io::write_all(1, b" ");
-    print_last(position);
+fn print_refused(rt: &impl Print, question: u8, position: usize) -> io::Result<()> {
+    print!(rt; "refused {question} ")?;
+    print_last(rt, position)
 }
 
-fn print_step(step: Step) {
+fn print_step(rt: &impl Print, step: Step) -> io::Result<()> {
     match step {
         Step::Next(next) => {
-            io::write_all(1, b"next ");
-            print_last(next);
+            print!(rt; "next ")?;
+            print_last(rt, next)
         }
-        Step::Refused(question, position) => print_refused(question, position),
+        Step::Refused(question, position) => print_refused(rt, question, position),
     }
 }
 
-fn print_field(field: Field) {
+fn print_field(rt: &impl Print, field: Field) -> io::Result<()> {
     match field {
         Field::Value(value, next) => {
-            io::write_all(1, b"value ");
-            io::print_decimal(1, value);
-            io::write_all(1, b" ");
-            print_last(next);
+            print!(rt; "value {value} ")?;
+            print_last(rt, next)
         }
-        Field::Refused(question, position) => print_refused(question, position),
+        Field::Refused(question, position) => print_refused(rt, question, position),
     }
 }
 
-fn print_order(order: Order, agree: usize) {
+fn print_order(rt: &impl Print, order: Order, agree: usize) -> io::Result<()> {
     match order {
-        Order::Less => {
-            io::write_all(1, b"less ");
-        }
-        Order::Equal => {
-            io::write_all(1, b"equal ");
-        }
-        Order::Greater => {
-            io::write_all(1, b"greater ");
-        }
+        Order::Less => print!(rt; "less ")?,
+        Order::Equal => print!(rt; "equal ")?,
+        Order::Greater => print!(rt; "greater ")?,
     }
-    print_last(agree);
+    print_last(rt, agree)
 }
 
-fn print_keys(keys: KeysCompared) {
+fn print_keys(rt: &impl Print, keys: KeysCompared) -> io::Result<()> {
     match keys {
-        KeysCompared::Compared(order, agree) => print_order(order, agree),
+        KeysCompared::Compared(order, agree) => print_order(rt, order, agree),
         KeysCompared::LeftRefused(question, position) => {
-            io::write_all(1, b"left ");
-            print_refused(question, position);
+            print!(rt; "left ")?;
+            print_refused(rt, question, position)
         }
         KeysCompared::RightRefused(question, position) => {
-            io::write_all(1, b"right ");
-            print_refused(question, position);
+            print!(rt; "right ")?;
+            print_refused(rt, question, position)
         }
     }
 }
 
-fn text_line(s: &[u8], at: usize, room: &mut [u8]) {
+fn text_line(rt: &impl Print, s: &[u8], at: usize, room: &mut [u8]) -> io::Result<()> {
     let n = bytes(s, at, room);
-    print_last(text::valid_up_to(part(room, 0, n)));
+    print_last(rt, text::valid_up_to(part(room, 0, n)))
 }
 
-fn string_line(s: &[u8], first: usize, room: &mut [u8]) {
+fn string_line(rt: &impl Print, s: &[u8], first: usize, room: &mut [u8]) -> io::Result<()> {
     let second = after_word(s, first);
     let n = bytes(s, after_word(s, second), room);
-    print_step(state_wire::string_bounded(
-        part(room, 0, n),
-        position(s, second),
-        position(s, first),
-    ));
+    print_step(
+        rt,
+        state_wire::string_bounded(part(room, 0, n), position(s, second), position(s, first)),
+    )
 }
 
-fn digit_of(n: u8) -> u8 {
-    let d = n % 16;
-    if d < 10 { b'0' + d } else { b'a' - 10 + d }
-}
-
-fn print_hex(s: &[u8]) {
-    if s.len() == 0 {
-        io::write_all(1, b"-");
+fn print_hex(rt: &impl Print, s: &[u8]) -> io::Result<()> {
+    if s.is_empty() {
+        print!(rt; "-")?;
     }
-    for i in 0..s.len() {
-        let digits = [digit_of(s[i] / 16), digit_of(s[i])];
-        io::write_all(1, &digits);
+    for byte in s {
+        print!(rt; "{byte:02x}")?;
     }
-    io::write_all(1, b"\n");
+    println!(rt)
 }
 
-fn string_text_line(s: &[u8], first: usize, room: &mut [u8]) {
+fn string_text_line(rt: &impl Print, s: &[u8], first: usize, room: &mut [u8]) -> io::Result<()> {
     let second = after_word(s, first);
     let n = bytes(s, after_word(s, second), room);
-    print_hex(state_wire::string_text(part(room, 0, n), position(s, second), position(s, first)));
+    print_hex(
+        rt,
+        state_wire::string_text(part(room, 0, n), position(s, second), position(s, first)),
+    )
 }
 
-fn offset_line(s: &[u8], first: usize) {
+fn offset_line(rt: &impl Print, s: &[u8], first: usize) -> io::Result<()> {
     let at = position(s, after_word(s, first));
-    io::print_decimal(1, state_wire::offset(number(s, first), at));
-    io::write_all(1, b"\n");
+    let offset = state_wire::offset(number(s, first), at);
+    println!(rt; "{offset}")
 }
 
 fn read_number(s: &[u8], at: usize, width: u64) -> Field {
@@ -137,83 +126,112 @@ fn read_number(s: &[u8], at: usize, width: u64) -> Field {
     }
 }
 
-fn number_line(s: &[u8], first: usize, room: &mut [u8]) {
+fn number_line(rt: &impl Print, s: &[u8], first: usize, room: &mut [u8]) -> io::Result<()> {
     let second = after_word(s, first);
     let n = bytes(s, after_word(s, second), room);
-    print_field(read_number(part(room, 0, n), position(s, second), number(s, first)));
+    print_field(
+        rt,
+        read_number(part(room, 0, n), position(s, second), number(s, first)),
+    )
 }
 
-fn count_line(s: &[u8], first: usize, room: &mut [u8]) {
+fn count_line(rt: &impl Print, s: &[u8], first: usize, room: &mut [u8]) -> io::Result<()> {
     let second = after_word(s, first);
     let third = after_word(s, second);
     let n = bytes(s, after_word(s, third), room);
     let count = number(s, first);
     let least = number(s, second);
-    print_field(state_wire::bounded_count(part(room, 0, n), position(s, third), count, least));
+    print_field(
+        rt,
+        state_wire::bounded_count(part(room, 0, n), position(s, third), count, least),
+    )
 }
 
-fn tag_line(s: &[u8], first: usize, room: &mut [u8]) {
+fn tag_line(rt: &impl Print, s: &[u8], first: usize, room: &mut [u8]) -> io::Result<()> {
     let second = after_word(s, first);
     let n = bytes(s, after_word(s, second), room);
     let known = (number(s, first) % 256) as u8;
-    print_field(state_wire::read_tag(part(room, 0, n), position(s, second), known));
+    print_field(
+        rt,
+        state_wire::read_tag(part(room, 0, n), position(s, second), known),
+    )
 }
 
-fn compare(op: u8, a: &[u8], b: &[u8]) {
+fn compare(rt: &impl Print, op: u8, a: &[u8], b: &[u8]) -> io::Result<()> {
     match op {
         b'o' => {
             let c = order::compare(a, b);
-            let o = c.order;
-            print_order(o, c.agree);
+            print_order(rt, c.order, c.agree)
         }
-        b'b' => print_keys(state_key_order::compare_block_keys(a, 0, b, 0)),
-        _ => print_keys(state_key_order::compare_connector_keys(a, 0, b, 0)),
+        b'b' => print_keys(rt, state_key_order::compare_block_keys(a, 0, b, 0)),
+        _ => print_keys(rt, state_key_order::compare_connector_keys(a, 0, b, 0)),
     }
 }
 
-fn pair_line(op: u8, s: &[u8], first: usize, room: &mut [u8], other: &mut [u8]) {
+fn pair_line(
+    rt: &impl Print,
+    op: u8,
+    s: &[u8],
+    first: usize,
+    room: &mut [u8],
+    other: &mut [u8],
+) -> io::Result<()> {
     let second = after_word(s, first);
     let n = bytes(s, first, room);
     let m = bytes(s, second, other);
-    compare(op, part(room, 0, n), part(other, 0, m));
+    compare(rt, op, part(room, 0, n), part(other, 0, m))
 }
 
 // The answer to a line, by its first letter and where its first word stands.
-fn answer(op: u8, s: &[u8], first: usize, room: &mut [u8], other: &mut [u8]) {
+fn answer(
+    rt: &impl Print,
+    op: u8,
+    s: &[u8],
+    first: usize,
+    room: &mut [u8],
+    other: &mut [u8],
+) -> io::Result<()> {
     match op {
-        b't' => text_line(s, first, room),
-        b's' => string_line(s, first, room),
-        b'x' => string_text_line(s, first, room),
-        b'f' => offset_line(s, first),
-        b'n' => number_line(s, first, room),
-        b'c' => count_line(s, first, room),
-        b'g' => tag_line(s, first, room),
-        _ => pair_line(op, s, first, room, other),
+        b't' => text_line(rt, s, first, room),
+        b's' => string_line(rt, s, first, room),
+        b'x' => string_text_line(rt, s, first, room),
+        b'f' => offset_line(rt, s, first),
+        b'n' => number_line(rt, s, first, room),
+        b'c' => count_line(rt, s, first, room),
+        b'g' => tag_line(rt, s, first, room),
+        _ => pair_line(rt, op, s, first, room, other),
     }
 }
 
 // The answer to the line at a position, if one begins there.
-fn line_at(begins: bool, s: &[u8], at: usize, room: &mut [u8], other: &mut [u8]) {
+fn line_at(
+    rt: &impl Print,
+    begins: bool,
+    s: &[u8],
+    at: usize,
+    room: &mut [u8],
+    other: &mut [u8],
+) -> io::Result<()> {
     if !begins || s.len() <= at {
-        return;
+        return Ok(());
     }
-    answer(s[at], s, after_word(s, at), room, other);
+    answer(rt, s[at], s, after_word(s, at), room, other)
 }
 
-fn lines(s: &[u8], room: &mut [u8], other: &mut [u8]) {
+fn lines(rt: &impl Print, s: &[u8], room: &mut [u8], other: &mut [u8]) -> io::Result<()> {
     let mut begins = true;
-    let mut i = 0;
-    while i < s.len() {
-        line_at(begins, s, i, room, other);
-        begins = s[i] == b'\n';
-        i += 1;
+    for (i, byte) in s.iter().enumerate() {
+        line_at(rt, begins, s, i, room, other)?;
+        begins = *byte == b'\n';
     }
+    Ok(())
 }
 
-fn main() {
+fn main(rt: HostRuntime) -> io::Result<()> {
     let mut input = [0u8; INPUT];
-    let n = io::read_full(0, &mut input);
+    let mut unfilled = &mut input[..];
+    let n = io::copy(&mut rt.reader().take(INPUT as u64), &mut unfilled)? as usize;
     let mut room = [0u8; SIZE];
     let mut other = [0u8; SIZE];
-    lines(&input[..n], &mut room, &mut other);
+    lines(&rt, part(&input, 0, n), &mut room, &mut other)
 }
