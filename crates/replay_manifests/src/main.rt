@@ -10,9 +10,13 @@
 //                                                      then ` starts S1 .. S12` of each that is accepted
 //
 // Each index is filled before a call. The answer ends with `index` where the call has left another one than it must.
+#![tactic(auto)]
+
 use replay_lines::{after_word, bytes, number, position};
 use state::{Answer, Decoded, Starts, Verdict};
 use state_wire::part;
+use std::io;
+use std::io::BufRead;
 
 // The most lines, bytes of a line and of one HEX, and words of an index.
 const LINES: usize = 1000000;
@@ -27,9 +31,7 @@ const WORDS: usize = 512;
 const FILL: u32 = 0xa5a5a5a5;
 
 fn fill(index: &mut [u32]) {
-    for i in 0..index.len() {
-        index[i] = FILL;
-    }
+    index.fill(FILL);
 }
 
 // Whether each word from a place on is this one.
@@ -80,78 +82,85 @@ fn are_left(verdict: Verdict, index: &[u32], index2: &[u32]) -> bool {
     }
 }
 
-fn print_number(n: u64) {
-    io::write_all(1, b" ");
-    io::print_decimal(1, n);
+fn print_number(rt: &impl Print, n: u64) -> io::Result<()> {
+    print!(rt; " {n}")
 }
 
 // A word, and the starts that stand in the index.
-fn print_starts(name: &[u8], index: &[u32]) {
-    io::write_all(1, name);
+fn print_starts(rt: &impl Print, name: &str, index: &[u32]) -> io::Result<()> {
+    print!(rt; "{name}")?;
     for i in 0..12 {
-        print_number(word(index, i) as u64);
+        print_number(rt, u64::from(word(index, i)))?;
     }
+    Ok(())
 }
 
 // A word for what is refused, and the refusal.
-fn print_refusal(name: &[u8], question: u8, offset: u64) {
-    io::write_all(1, name);
-    print_number(question as u64);
-    print_number(offset);
+fn print_refusal(rt: &impl Print, name: &str, question: u8, offset: u64) -> io::Result<()> {
+    print!(rt; "{name} {question} {offset}")
 }
 
-fn print_difference(section: u8, part: u8, entry: usize, inner: usize) {
-    io::write_all(1, b"differs");
-    print_number(section as u64);
-    print_number(part as u64);
-    print_number(entry as u64);
-    print_number(inner as u64);
+fn print_difference(
+    rt: &impl Print,
+    section: u8,
+    part: u8,
+    entry: usize,
+    inner: usize,
+) -> io::Result<()> {
+    print!(rt; "differs {section} {part} {entry} {inner}")
 }
 
 // Ends the answer.
-fn print_end(left: bool) {
+fn print_end(rt: &impl Print, left: bool) -> io::Result<()> {
     if !left {
-        io::write_all(1, b" index");
+        print!(rt; " index")?;
     }
-    io::write_all(1, b"\n");
+    println!(rt)
 }
 
-fn print_decoded(decoded: Decoded, index: &[u32]) {
+fn print_decoded(rt: &impl Print, decoded: Decoded, index: &[u32]) -> io::Result<()> {
     let answer = decoded.answer;
     let starts = decoded.starts;
     match answer {
-        Answer::Accepted => print_starts(b"accepted", index),
-        Answer::Refused(question, offset) => print_refusal(b"refused", question, offset),
+        Answer::Accepted => print_starts(rt, "accepted", index)?,
+        Answer::Refused(question, offset) => print_refusal(rt, "refused", question, offset)?,
     }
-    print_end(is_left(answer, starts, index));
+    print_end(rt, is_left(answer, starts, index))
 }
 
-fn print_both_starts(index: &[u32], index2: &[u32]) {
-    print_starts(b" starts", index);
-    print_starts(b" starts", index2);
+fn print_both_starts(rt: &impl Print, index: &[u32], index2: &[u32]) -> io::Result<()> {
+    print_starts(rt, " starts", index)?;
+    print_starts(rt, " starts", index2)
 }
 
-fn print_verdict(verdict: Verdict, index: &[u32], index2: &[u32]) {
+fn print_verdict(
+    rt: &impl Print,
+    verdict: Verdict,
+    index: &[u32],
+    index2: &[u32],
+) -> io::Result<()> {
     match verdict {
         Verdict::Compatible => {
-            io::write_all(1, b"compatible");
-            print_both_starts(index, index2);
+            print!(rt; "compatible")?;
+            print_both_starts(rt, index, index2)?;
         }
         Verdict::Differs(section, part, entry, inner) => {
-            print_difference(section, part, entry, inner);
-            print_both_starts(index, index2);
+            print_difference(rt, section, part, entry, inner)?;
+            print_both_starts(rt, index, index2)?;
         }
-        Verdict::SnapshotRefused(question, offset) => print_refusal(b"snapshot", question, offset),
+        Verdict::SnapshotRefused(question, offset) => print_refusal(
+            rt, "snapshot", question, offset,
+        )?,
         Verdict::TargetRefused(question, offset) => {
-            print_refusal(b"target", question, offset);
-            print_starts(b" starts", index);
+            print_refusal(rt, "target", question, offset)?;
+            print_starts(rt, " starts", index)?;
         }
     }
-    print_end(are_left(verdict, index, index2));
+    print_end(rt, are_left(verdict, index, index2))
 }
 
 // What a line says of one manifest: the numbers of the call, and where its HEX stands.
-#[derive(Drop)]
+#[derive(Clone, Copy)]
 struct Call {
     base: u64,
     revision: u32,
@@ -174,19 +183,33 @@ fn call_at(s: &[u8], at: usize) -> Call {
     }
 }
 
-fn decode(s: &[u8], call: Call, index: &mut [u32]) {
+fn decode(rt: &impl Print, s: &[u8], call: Call, index: &mut [u32]) -> io::Result<()> {
     fill(index);
     let decoded = manifest::decode_manifest(s, call.base, call.revision, index);
-    print_decoded(decoded, index);
+    print_decoded(rt, decoded, index)
 }
 
-fn decode_tail(s: &[u8], call: Call, t: &[u8], index: &mut [u32]) {
+fn decode_tail(
+    rt: &impl Print,
+    s: &[u8],
+    call: Call,
+    t: &[u8],
+    index: &mut [u32],
+) -> io::Result<()> {
     fill(index);
     let decoded = state_codec::decode_snapshot(s, t, call.base, call.revision, index);
-    print_decoded(decoded, index);
+    print_decoded(rt, decoded, index)
 }
 
-fn compare(s: &[u8], call: Call, index: &mut [u32], t: &[u8], call2: Call, index2: &mut [u32]) {
+fn compare(
+    rt: &impl Print,
+    s: &[u8],
+    call: Call,
+    index: &mut [u32],
+    t: &[u8],
+    call2: Call,
+    index2: &mut [u32],
+) -> io::Result<()> {
     fill(index);
     fill(index2);
     let verdict = state_manifest::compare_manifests(
@@ -199,83 +222,107 @@ fn compare(s: &[u8], call: Call, index: &mut [u32], t: &[u8], call2: Call, index
         call2.revision,
         index2,
     );
-    print_verdict(verdict, index, index2);
+    print_verdict(rt, verdict, index, index2)
 }
 
 // The answer to a line of four, five or eight words. There is none where it asks for a longer index than there is.
-fn answer(s: &[u8], room: &mut [u8], index: &mut [u32], room2: &mut [u8], index2: &mut [u32]) {
+fn answer(
+    rt: &impl Print,
+    s: &[u8],
+    room: &mut [u8],
+    index: &mut [u32],
+    room2: &mut [u8],
+    index2: &mut [u32],
+) -> io::Result<()> {
     let call = call_at(s, 0);
     let words = call.words;
     let next = after_word(s, call.hex);
     let call2 = call_at(s, next);
     let words2 = call2.words;
     if index.len() < words || index2.len() < words2 {
-        return;
+        return Ok(());
     }
     let n = bytes(s, call.hex, room);
     if s.len() <= next {
-        decode(part(room, 0, n), call, &mut index[..words]);
+        decode(rt, part(room, 0, n), call, &mut index[..words])
     } else if s.len() <= after_word(s, next) {
         let tail = bytes(s, next, room2);
         decode_tail(
+            rt,
             part(room, 0, n),
             call,
             part(room2, 0, tail),
             &mut index[..words],
-        );
+        )
     } else {
         let n2 = bytes(s, call2.hex, room2);
         compare(
+            rt,
             part(room, 0, n),
             call,
             &mut index[..words],
             part(room2, 0, n2),
             call2,
             &mut index2[..words2],
-        );
+        )
     }
+}
+
+// Reads a byte, or nothing where the input has ended.
+fn next_byte(reader: &mut impl BufRead) -> io::Result<Option<u8>> {
+    let byte = reader.fill_buf()?.first().copied();
+    if byte.is_some() {
+        reader.consume(1);
+    }
+    Ok(byte)
 }
 
 // Reads a line with its end, byte by byte, and answers how many bytes it has: 0 where the input has ended.
-fn next_line(line: &mut [u8]) -> usize {
-    let mut n = 0;
-    while n < line.len() {
-        let mut byte = [0u8; 1];
-        if io::read_full(0, &mut byte) == 0 {
-            return n;
-        }
-        line[n] = byte[0];
-        n += 1;
-        if byte[0] == b'\n' {
-            return n;
+fn next_line(reader: &mut impl BufRead, line: &mut [u8]) -> io::Result<usize> {
+    for n in 0..line.len() {
+        let Some(byte) = next_byte(reader)? else {
+            return Ok(n);
+        };
+        line[n] = byte;
+        if byte == b'\n' {
+            return Ok(n + 1);
         }
     }
-    n
+    Ok(line.len())
 }
 
 fn lines(
+    rt: &impl Print,
+    reader: &mut impl BufRead,
     line: &mut [u8],
     room: &mut [u8],
     index: &mut [u32],
     room2: &mut [u8],
     index2: &mut [u32],
-) {
-    let mut done = 0;
-    while done < LINES {
-        let n = next_line(line);
+) -> io::Result<()> {
+    for _ in 0..LINES {
+        let n = next_line(reader, line)?;
         if n == 0 {
-            return;
+            return Ok(());
         }
-        answer(part(line, 0, n), room, index, room2, index2);
-        done += 1;
+        answer(rt, part(line, 0, n), room, index, room2, index2)?;
     }
+    Ok(())
 }
 
-fn main() {
+fn main(rt: HostRuntime) -> io::Result<()> {
     let mut line = [0u8; LINE];
     let mut room = [0u8; SIZE];
     let mut index = [0u32; WORDS];
     let mut room2 = [0u8; SIZE];
     let mut index2 = [0u32; WORDS];
-    lines(&mut line, &mut room, &mut index, &mut room2, &mut index2);
+    lines(
+        &rt,
+        &mut rt.reader(),
+        &mut line,
+        &mut room,
+        &mut index,
+        &mut room2,
+        &mut index2,
+    )
 }
