@@ -13,11 +13,10 @@ returns-in-Refused-answer2 c =
     c.decode_manifest-first.ensures.value c.decode_manifest-first.ensures.index_after c.in_default.is c.decode_manifest-second.ensures.value c.decode_manifest-second.ensures.index_after c.in-Refused-answer2.is in record { value = p.0; index_after = p.1.0; index2_after = p.1.1.0; verdict_demand = p.1.1.1 }
 
 pub compare_sections-requires : goal.compare_sections-requires
-compare_sections-requires c =
-    (
-      accepted-stands _ _ _ _ c.decode_manifest-first.ensures.value c.in_default.is (λ i. (c.type_inv.snapshot i).fits),
-      accepted-stands _ _ _ _ c.decode_manifest-second.ensures.value c.in_default-answer2.is (λ i. (c.type_inv.target i).fits),
-    )
+compare_sections-requires c = (
+  accepted-stands _ _ _ _ c.decode_manifest-first.ensures.value c.in_default.is (λ i. (c.type_inv.snapshot i).fits),
+  accepted-stands _ _ _ _ c.decode_manifest-second.ensures.value c.in_default-answer2.is (λ i. (c.type_inv.target i).fits),
+)
 
 pub returns : goal.returns
 returns c =

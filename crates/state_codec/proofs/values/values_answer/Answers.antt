@@ -1,5 +1,4 @@
 use Rattle.state_codec.proofs.Asking.{asking-start, asking-end, asking-well, asking-no, asking-next}
-use Prim.Native.Nat.{◌-◌}
 use native.Mathlib.Omega.{arith}
 use Rattle.state_codec.proofs.values.values_answer.Goals as goal
 

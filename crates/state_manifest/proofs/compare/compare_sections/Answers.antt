@@ -2,7 +2,6 @@ use Rattle.state_manifest.proofs.Verdicts.{left-start, left_end, section-both, s
 use Rattle.state_manifest.proofs.Sections.{starts-twelve}
 use lib.ListN.{length}
 use mathlib.Core.Path.{ap, ◌∙◌}
-use Prim.Native.Nat.{◌-◌}
 use native.Mathlib.Omega.{arith}
 use Rattle.state_manifest.proofs.compare.compare_sections.Goals as goal
 
@@ -23,8 +22,12 @@ section_start-f-requires c = (omega arith, ap length c.requires.1.starts-are ∙
 
 pub compare_section-requires : goal.compare_section-requires
 compare_section-requires c =
-    record { le_section = (c.loop-k.invariant.from, c.loop-k-test.true); both = section-both c.requires.0 c.requires.1 c.loop-k.invariant c.loop-k-test.true c.section_start-a.ensures c.section_start-b.ensures c.section_start-e.ensures c.section_start-f.ensures; b_value = section-apart c.requires.0 c.requires.1 c.loop-k.invariant c.loop-k-test.true c.section_start-a.ensures c.section_start-b.ensures c.section_start-e.ensures c.section_start-f.ensures
-            c.part.ensures c.part-in-loop-k.ensures c.same_bytes.ensures c.if-not-same_bytes.true }
+    record {
+      le_section = (c.loop-k.invariant.from, c.loop-k-test.true);
+      both = section-both c.requires.0 c.requires.1 c.loop-k.invariant c.loop-k-test.true c.section_start-a.ensures c.section_start-b.ensures c.section_start-e.ensures c.section_start-f.ensures;
+      b_value = section-apart c.requires.0 c.requires.1 c.loop-k.invariant c.loop-k-test.true c.section_start-a.ensures c.section_start-b.ensures c.section_start-e.ensures c.section_start-f.ensures
+          c.part.ensures c.part-in-loop-k.ensures c.same_bytes.ensures c.if-not-same_bytes.true;
+    }
 
 pub returns-then-not-same_bytes : goal.returns-then-not-same_bytes
 returns-then-not-same_bytes c =
