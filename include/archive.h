@@ -1,4 +1,4 @@
-/* Text, strings and key order of execution manifests, without the manifest reader: link libarchive_c.a (rt staticlib
+/* Text, strings and key order of execution manifests, without the manifest reader: link libarchive_c.a (tools/staticlib
    archive_c). Every function is proved to answer as said here, for bytes of any content and length and any positions;
    none keeps a pointer, allocates, or reads outside the bytes that it is given. A pointer to no bytes must still not be
    null. */

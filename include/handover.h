@@ -1,4 +1,4 @@
-/* Execution manifests, read, counted and compared: link libhandover_c.a (rt staticlib handover_c).
+/* Execution manifests, read, counted and compared: link libhandover_c.a (tools/staticlib handover_c).
    The functions are proved to answer as said here, for bytes of any content and length; they keep no pointer, allocate
    nothing, never change the bytes, and touch no memory outside what they are lent. A pointer to no bytes, or to an
    index of no words, must still not be null; an index, and answer, must not overlap anything else that is lent. */

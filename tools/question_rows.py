@@ -289,14 +289,14 @@ def row(question, what, m, revision=2):
     told = ["refused", str(question), str(len(encode(m)))] if question else ["accepted"]
     answer = ask(m, revision)
     assert answer[: len(told)] == told, (question, what, answer)
-    line = '%s "%s"' % ("refusedBy %d" % question if question else "accepted", printed(m))
+    line = '%s "%s"' % ("refused_by %d" % question if question else "accepted", printed(m))
     return "    -- %s\n    ∷ %s\n" % (what, line if revision == 2 else "revision1 (%s)" % line)
 
 
 def main():
     for name, questions in GROUPS.items():
         rows = "".join(row(q, *r) for q in questions for r in ROWS[q]).replace("∷ ", "", 1)
-        print("\nabbrev pub %sRows : List Row\n%sRows =\n%s    ∷ []" % (name, name, rows))
+        print("\nabbrev pub %s_rows : List Row\n%s_rows =\n%s    ∷ []" % (name, name, rows))
 
 
 if __name__ == "__main__":

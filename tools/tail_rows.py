@@ -152,7 +152,7 @@ def tail_row(question, what, m, t, cut=0, revision=2):
 def main():
     for name, rows in GROUPS.items():
         text = "".join(tail_row(*r) for r in rows).replace("∷ ", "", 1)
-        print("\nabbrev pub %sRows : List Row\n%sRows =\n%s    ∷ []" % (name, name, text))
+        print("\nabbrev pub %s_rows : List Row\n%s_rows =\n%s    ∷ []" % (name, name, text))
 
 
 if __name__ == "__main__":

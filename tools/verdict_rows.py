@@ -90,8 +90,8 @@ def pair_row(where, what, a, b):
     expected = ["differs", *map(str, where)] if where else ["compatible"]
     assert told(a, b) == expected, (what, told(a, b))
     verdict = "(Differs %d %d %d %d)" % where if where else "Compatible"
-    return '    -- %s\n    ∷ pairOf "%s" "%s" %s\n' % (what, printed(a), printed(b), verdict)
+    return '    -- %s\n    ∷ pair_of "%s" "%s" %s\n' % (what, printed(a), printed(b), verdict)
 
 
 if __name__ == "__main__":
-    print("abbrev pub pairRows : List Pair\npairRows =\n%s    ∷ []" % "".join(pair_row(*r) for r in ROWS).replace("∷ ", "", 1))
+    print("abbrev pub pair_rows : List Pair\npair_rows =\n%s    ∷ []" % "".join(pair_row(*r) for r in ROWS).replace("∷ ", "", 1))

@@ -5,7 +5,7 @@
 
    Build it in the root of the repository:
 
-   rt staticlib handover_c
+   tools/staticlib handover_c
    cc -O2 -Wall -Wextra -pedantic -std=c11 -Iinclude -o target/judge examples/c/judge.c target/staticlib/libhandover_c.a
 
    Exit status: 0 accepted or compatible, 1 refused or differs, 2 bad usage, an unreadable file, too little memory. */

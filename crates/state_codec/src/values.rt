@@ -110,7 +110,7 @@ fn values_answer(
     requires listed { Listed s.now index.now classes end from to }
     requires are_bytes { AreBytes t.now }
     requires well { Well max_snapshot_bytes (counted values) t.now 0 }
-    requires t_value { number_at 4 t.now 0 ≡ to - from }
+    requires counted { number_at 4 t.now 0 ≡ to - from }
     ensures { result ≡ first (map (value_answer (classes_at s.now index.now classes end) (connectors_at s.now index.now from to)) (value_at (counted values) t.now 0)) }
 {
     let mut p = ahead(t, 0, 4);

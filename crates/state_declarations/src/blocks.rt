@@ -63,7 +63,7 @@ fn parameters_hold(s: &[u8], index: &[u32], from: usize, to: usize, at: usize) -
 fn port_holds(s: &[u8], block: usize, way: u8, place: usize, at: usize) -> bool
     requires are_bytes { AreBytes s.now }
     requires well { Well max_snapshot_bytes block_key s.now block }
-    requires well_2 { Well max_snapshot_bytes connector_key s.now at }
+    requires well_key { Well max_snapshot_bytes connector_key s.now at }
     ensures { result ≡ port_holds (value_at block_key s.now block) way place (value_at connector_key s.now at) }
 {
     let end = block_key_end(s, at);
@@ -80,7 +80,7 @@ fn port_holds(s: &[u8], block: usize, way: u8, place: usize, at: usize) -> bool
 fn ports_hold(s: &[u8], block: usize, way: u8, at: usize) -> bool
     requires are_bytes { AreBytes s.now }
     requires well { Well max_snapshot_bytes block_key s.now block }
-    requires well_2 { Well max_snapshot_bytes connector_keys s.now at }
+    requires well_keys { Well max_snapshot_bytes connector_keys s.now at }
     ensures { result ≡ ports_hold (value_at block_key s.now block) way 0 (value_at connector_keys s.now at) }
 {
     let count = count_at(s, at);

@@ -68,7 +68,7 @@ fn is_free(v: u32, first: u32, h: usize, own: usize) -> bool
 fn sift(s: &[u8], w: &mut [u32], n: usize) -> usize
     requires { (0 < n) × (n < length w.old) }
     ensures upper_bound { result ≤ n }
-    ensures w_value { all_different (map (text_at s.now) (take n w.old)) ≡ (ltb result n && all_different (map (text_at s.now) (take result w.new))) }
+    ensures same_answer { all_different (map (text_at s.now) (take n w.old)) ≡ (ltb result n && all_different (map (text_at s.now) (take result w.new))) }
 {
     let e = w.len();
     let m = e - n;

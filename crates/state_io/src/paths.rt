@@ -48,7 +48,7 @@ fn mark_inputs(
 )
     requires marked { Marked connectors s.now index.old from to marks [] }
     requires low_le_high { (low ≤ high) × (high ≤ marks) }
-    ensures marked_2 { Marked connectors s.now index.new from to marks (keys_at external_inputs s.now index.old low high) }
+    ensures marks { Marked connectors s.now index.new from to marks (keys_at external_inputs s.now index.old low high) }
     ensures kept { Kept marks (marks + (to - from)) index.old index.new }
 {
     let mut hint = to;

@@ -111,7 +111,7 @@ fn compare_named(s: &[u8], t: &[u8], section: u8, a: usize, b: usize) -> Verdict
 fn compare_section(s: &[u8], t: &[u8], section: u8, a: usize, b: usize) -> Verdict
     requires le_section { (1 ≤ section) × (section ≤ 12) }
     requires both { Both (comparison section).format s.now t.now a b }
-    requires b_value { same (span s.now a (past (comparison section).format s.now a)) (span t.now b (past (comparison section).format t.now b)) ≡ false }
+    requires apart { same (span s.now a (past (comparison section).format s.now a)) (span t.now b (past (comparison section).format t.now b)) ≡ false }
     ensures { result ≡ (comparison section).compare (value_at (comparison section).format s.now a) (value_at (comparison section).format t.now b) }
 {
     match section {

@@ -176,7 +176,7 @@ fn slots_cover(s: &[u8], index: &mut [u32], from: usize, to: usize, room: usize)
 // Questions 21 to 24, after 11 to 16 said yes: 0, or the first that says no.
 pub fn validate_slots(s: &[u8], index: &mut [u32]) -> u8
     requires tabled { Tabled s.now index.old }
-    requires s_value { first (declarations (manifest_of s.now)) ≡ 0 }
+    requires declared { first (declarations (manifest_of s.now)) ≡ 0 }
     ensures value { result ≡ first (slots (manifest_of s.now)) }
     ensures leaves { Leaves s.now index.old index.new }
 {

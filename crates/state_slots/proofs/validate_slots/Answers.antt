@@ -19,12 +19,12 @@ returns-then-r-ne0 c =
 
 pub slots_cover-requires : goal.slots_cover-requires
 slots_cover-requires c =
-    let p = cover-room c.requires.tabled c.table_start-from.ensures c.table_start-to.ensures c.table_start-start.ensures c.table_start-stop.ensures c.slot_keys_are.ensures c.if-not-slot_keys_are.false c.slot_answers-r.ensures c.if-r-ne0.false c.requires.s_value c.table_start-room.ensures in record { room = p.0; all = p.1 }
+    let p = cover-room c.requires.tabled c.table_start-from.ensures c.table_start-to.ensures c.table_start-start.ensures c.table_start-stop.ensures c.slot_keys_are.ensures c.if-not-slot_keys_are.false c.slot_answers-r.ensures c.if-r-ne0.false c.requires.declared c.table_start-room.ensures in record { room = p.0; all = p.1 }
 
 pub returns-then-not-slots_cover : goal.returns-then-not-slots_cover
 returns-then-not-slots_cover c =
-    let p = asked-24 c.requires.tabled c.table_start-from.ensures c.table_start-to.ensures c.table_start-start.ensures c.table_start-stop.ensures c.slot_keys_are.ensures c.if-not-slot_keys_are.false c.slot_answers-r.ensures c.if-r-ne0.false c.requires.s_value c.table_start-room.ensures c.slots_cover.ensures.value c.slots_cover.ensures.kept c.if-not-slots_cover.true in record { value = p.0; leaves = p.1 }
+    let p = asked-24 c.requires.tabled c.table_start-from.ensures c.table_start-to.ensures c.table_start-start.ensures c.table_start-stop.ensures c.slot_keys_are.ensures c.if-not-slot_keys_are.false c.slot_answers-r.ensures c.if-r-ne0.false c.requires.declared c.table_start-room.ensures c.slots_cover.ensures.value c.slots_cover.ensures.kept c.if-not-slots_cover.true in record { value = p.0; leaves = p.1 }
 
 pub returns : goal.returns
 returns c =
-    let p = all_asked c.requires.tabled c.table_start-from.ensures c.table_start-to.ensures c.table_start-start.ensures c.table_start-stop.ensures c.slot_keys_are.ensures c.if-not-slot_keys_are.false c.slot_answers-r.ensures c.if-r-ne0.false c.requires.s_value c.table_start-room.ensures c.slots_cover.ensures.value c.slots_cover.ensures.kept c.if-not-slots_cover.false in record { value = p.0; leaves = p.1 }
+    let p = all_asked c.requires.tabled c.table_start-from.ensures c.table_start-to.ensures c.table_start-start.ensures c.table_start-stop.ensures c.slot_keys_are.ensures c.if-not-slot_keys_are.false c.slot_answers-r.ensures c.if-r-ne0.false c.requires.declared c.table_start-room.ensures c.slots_cover.ensures.value c.slots_cover.ensures.kept c.if-not-slots_cover.false in record { value = p.0; leaves = p.1 }

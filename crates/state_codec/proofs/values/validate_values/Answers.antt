@@ -12,7 +12,7 @@ returns-then-count_at-to c =
 
 pub values_answer-requires : goal.values_answer-requires
 values_answer-requires c =
-    record { listed = listed c.requires.asked c.table_start-classes.ensures c.table_start-end.ensures c.table_start-from.ensures c.table_start-to.ensures; are_bytes = c.requires.are_bytes; well = c.requires.well; t_value = sym c.count_at.ensures ∙ c.if-count_at-to.false }
+    record { listed = listed c.requires.asked c.table_start-classes.ensures c.table_start-end.ensures c.table_start-from.ensures c.table_start-to.ensures; are_bytes = c.requires.are_bytes; well = c.requires.well; counted = sym c.count_at.ensures ∙ c.if-count_at-to.false }
 
 pub returns : goal.returns
 returns c =

@@ -4,7 +4,7 @@ use Rattle.state_codec.proofs.values.values_answer.Goals as goal
 
 pub loop-w-init : goal.loop-w-init
 loop-w-init c =
-    asking-start _ _ c.requires.well c.requires.t_value c.ahead-p.ensures
+    asking-start _ _ c.requires.well c.requires.counted c.ahead-p.ensures
 
 pub value_answer-question-requires : goal.value_answer-question-requires
 value_answer-question-requires c =

@@ -13,7 +13,7 @@ returns-then-not-parameters_hold c =
 
 pub ports_hold-requires : goal.ports_hold-requires
 ports_hold-requires c =
-    record { are_bytes = c.requires.are_bytes; well = key-well _ _ c.requires.well; well_2 = inputs-well _ _ c.parameters_at.ensures c.parameters_end-inputs.ensures c.requires.well }
+    record { are_bytes = c.requires.are_bytes; well = key-well _ _ c.requires.well; well_keys = inputs-well _ _ c.parameters_at.ensures c.parameters_end-inputs.ensures c.requires.well }
 
 pub returns-then-not-ports_hold : goal.returns-then-not-ports_hold
 returns-then-not-ports_hold c =
@@ -24,7 +24,7 @@ returns-then-not-ports_hold c =
 
 pub ports_hold-requires-2 : goal.ports_hold-requires-2
 ports_hold-requires-2 c =
-    record { are_bytes = c.requires.are_bytes; well = key-well _ _ c.requires.well; well_2 = outputs-well _ _ c.parameters_at.ensures c.parameters_end-inputs.ensures c.connector_keys_end.ensures c.requires.well }
+    record { are_bytes = c.requires.are_bytes; well = key-well _ _ c.requires.well; well_keys = outputs-well _ _ c.parameters_at.ensures c.parameters_end-inputs.ensures c.connector_keys_end.ensures c.requires.well }
 
 pub returns-then-not-ports_hold-2 : goal.returns-then-not-ports_hold-2
 returns-then-not-ports_hold-2 c =

@@ -4,11 +4,11 @@ use Rattle.state_declarations.proofs.blocks.ports_hold.Goals as goal
 
 pub loop-i-init : goal.loop-i-init
 loop-i-init c =
-    ports-start c.args.s.now _ _ c.args.at c.requires.well_2 c.count_at-count.ensures c.ahead-p.ensures
+    ports-start c.args.s.now _ _ c.args.at c.requires.well_keys c.count_at-count.ensures c.ahead-p.ensures
 
 pub port_holds-requires : goal.port_holds-requires
 port_holds-requires c =
-    record { are_bytes = c.requires.are_bytes; well = c.requires.well; well_2 = port-well _ _ _ _ c.loop-i.invariant c.loop-i-test.true }
+    record { are_bytes = c.requires.are_bytes; well = c.requires.well; well_key = port-well _ _ _ _ c.loop-i.invariant c.loop-i-test.true }
 
 pub returns-then-not-port_holds : goal.returns-then-not-port_holds
 returns-then-not-port_holds c =

@@ -93,7 +93,7 @@ returns-then-same_text c =
     let s = c.args.s.now in
     let m = length c.args.w.now - c.args.n in
     let first = get_or c.args.w.now 0 0 in
-    record { upper_bound = omega arith; w_value = ap (λ (r : List ℕ). all_different (map (text_at s) r)) (sym (filled-same (text_at s) (slot_at s m) first c.args.n c.args.w.now c.fill.new.index c.fill.ensures (omega arith))) ∙ held_same (text_at s) (slot_at s m) first c.args.n c.fill.new.index c.loop-i.w c.loop-i.k c.loop-i.i (omega arith) (omega arith) (omega arith) c.loop-i.invariant.3 (hit-of (text_at s) (slot_at s m) first c.args.n c.loop-i.w (get_or c.loop-i.w c.loop-i.i 0) _ c.slot_at-h.ensures c.same_text.ensures c.if-same_text.true) _ }
+    record { upper_bound = omega arith; same_answer = ap (λ (r : List ℕ). all_different (map (text_at s) r)) (sym (filled-same (text_at s) (slot_at s m) first c.args.n c.args.w.now c.fill.new.index c.fill.ensures (omega arith))) ∙ held_same (text_at s) (slot_at s m) first c.args.n c.fill.new.index c.loop-i.w c.loop-i.k c.loop-i.i (omega arith) (omega arith) (omega arith) c.loop-i.invariant.3 (hit-of (text_at s) (slot_at s m) first c.args.n c.loop-i.w (get_or c.loop-i.w c.loop-i.i 0) _ c.slot_at-h.ensures c.same_text.ensures c.if-same_text.true) _ }
 
 pub offset_bounds-w-k : goal.offset_bounds-w-k
 offset_bounds-w-k c = omega arith
@@ -129,4 +129,4 @@ returns c =
     let s = c.args.s.now in
     let m = length c.args.w.now - c.args.n in
     let first = get_or c.args.w.now 0 0 in
-    record { upper_bound = omega arith; w_value = ap (λ (r : List ℕ). all_different (map (text_at s) r)) (sym (filled-same (text_at s) (slot_at s m) first c.args.n c.args.w.now c.fill.new.index c.fill.ensures (omega arith))) ∙ held-end (text_at s) (slot_at s m) first c.args.n c.fill.new.index c.loop-i.w c.loop-i.k c.loop-i.i (omega arith) (omega arith) c.loop-i.invariant.3 }
+    record { upper_bound = omega arith; same_answer = ap (λ (r : List ℕ). all_different (map (text_at s) r)) (sym (filled-same (text_at s) (slot_at s m) first c.args.n c.args.w.now c.fill.new.index c.fill.ensures (omega arith))) ∙ held-end (text_at s) (slot_at s m) first c.args.n c.fill.new.index c.loop-i.w c.loop-i.k c.loop-i.i (omega arith) (omega arith) c.loop-i.invariant.3 }

@@ -8,5 +8,5 @@ mark_inputs-requires c =
 
 pub returns : goal.returns
 returns c =
-    gathered c.requires.keyed c.requires.low_le_high.1 c.requires.low_le_high.2 c.clear.ensures c.mark_inputs.ensures.marked_2 c.mark_inputs.ensures.kept
+    gathered c.requires.keyed c.requires.low_le_high.1 c.requires.low_le_high.2 c.clear.ensures c.mark_inputs.ensures.marks c.mark_inputs.ensures.kept
     c.put_paths-count.ensures c.sort.ensures c.sort.auto.index

@@ -26,4 +26,4 @@ pub shape_of-index : goal.shape_of-index
 shape_of-index c = c.loop-i.invariant.kept.long
 
 pub returns : goal.returns
-returns c = record { marked_2 = marking-end c.loop-i.invariant c.loop-i-test.false; kept = c.loop-i.invariant.kept }
+returns c = record { marks = marking-end c.loop-i.invariant c.loop-i-test.false; kept = c.loop-i.invariant.kept }

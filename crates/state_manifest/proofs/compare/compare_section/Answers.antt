@@ -15,4 +15,4 @@ pub returns-in-2 : goal.returns-in-2
 returns-in-2 c = named-found _ _ _ _ c.in-2.is c.compare_named.ensures
 
 pub returns-in_default : goal.returns-in_default
-returns-in_default c = whole-differs _ _ _ _ _ c.requires.le_section (λ w. elim w [ inl x ↦ c.in_default.in_default-own.rest.0.1 x | inr x ↦ c.in_default.in_default-own.rest.1 x ]) c.requires.both c.requires.b_value
+returns-in_default c = whole-differs _ _ _ _ _ c.requires.le_section (λ w. elim w [ inl x ↦ c.in_default.in_default-own.rest.0.1 x | inr x ↦ c.in_default.in_default-own.rest.1 x ]) c.requires.both c.requires.apart

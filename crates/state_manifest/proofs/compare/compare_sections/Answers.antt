@@ -25,7 +25,7 @@ compare_section-requires c =
     record {
       le_section = (c.loop-k.invariant.from, c.loop-k-test.true);
       both = section-both c.requires.0 c.requires.1 c.loop-k.invariant c.loop-k-test.true c.section_start-a.ensures c.section_start-b.ensures c.section_start-e.ensures c.section_start-f.ensures;
-      b_value = section-apart c.requires.0 c.requires.1 c.loop-k.invariant c.loop-k-test.true c.section_start-a.ensures c.section_start-b.ensures c.section_start-e.ensures c.section_start-f.ensures
+      apart = section-apart c.requires.0 c.requires.1 c.loop-k.invariant c.loop-k-test.true c.section_start-a.ensures c.section_start-b.ensures c.section_start-e.ensures c.section_start-f.ensures
           c.part.ensures c.part-in-loop-k.ensures c.same_bytes.ensures c.if-not-same_bytes.true;
     }
 
