@@ -139,3 +139,6 @@ module _ (revision : ℕ) (m : El manifest) {b : Bool} (e : b ≡ tag_holds targ
     pub both-say-yes : c ≡ true → 0 ≡ first (portability_holds target_bound_classes revision m)
     unfolding first
     both-say-yes h = sym (goes_on ∙ says-yes 32 [] (sym g ∙ h))
+
+-- for `tag_holds`, where 31 is not asked
+pub ruleset unasked = (tag-unasked)

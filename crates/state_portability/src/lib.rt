@@ -110,6 +110,7 @@ fn some_requires_target(s: &[u8], index: &[u32], from: usize, to: usize) -> bool
 }
 
 // Question 31.
+#[tactic(auto, using(crate::proofs::Bounding::unasked))]
 fn tag_holds(s: &[u8], revision: u32, index: &[u32]) -> bool
     requires { Tabled s.now index.now }
     ensures { result ≡ tag_holds target_bound_classes revision (manifest_of s.now) }

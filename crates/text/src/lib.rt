@@ -30,6 +30,7 @@ fn text_run(s: &[u8], from: usize) -> usize
 }
 
 // Where the text ends, character by character. Each width is added as a constant, so that the next load does not wait for the octets before it.
+#[tactic(auto, using(crate::proofs::Steps::bad))]
 fn chars(s: &[u8], from: usize) -> usize
     requires { from ≤ length s.now }
     ensures { result ≡ valid_from s.now from }
