@@ -215,3 +215,6 @@ pad-low s (suc (suc (suc i))) h = absurd (omega arith)
 
 pub clean_at : (s : List ℕ) (p : ℕ) → 3 ≤ p → Clean (get_or s (p - 3) 0) (get_or s (p - 2) 0) (get_or s (p - 1) 0) (get_or s p 0) → CleanAt s p
 clean_at s p h c = rw (pad-at s p (p - 3) (omega arith), pad-at s (p + 1) (p - 2) (omega arith), pad-at s (p + 2) (p - 1) (omega arith)) c
+
+-- for `text_blocks`, where it ends between two characters
+pub ruleset passed = (blocks-passed)

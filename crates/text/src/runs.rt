@@ -100,6 +100,7 @@ fn clean_end(s: &[u8], from: usize) -> usize
 }
 
 // The same from the end of a character to the end of another.
+#[tactic(auto, using(crate::proofs::Blocks::passed))]
 pub(crate) fn text_blocks(s: &[u8], from: usize) -> usize
     requires { (from ≤ length s.now) × (19 ≤ length s.now) }
     ensures { Passed s.now from result }

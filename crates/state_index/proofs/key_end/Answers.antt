@@ -1,3 +1,4 @@
+use native.Mathlib.Omega.{arith}
 use mathlib.Core.Logic.{inl, inr}
 use Rattle.state_index.proofs.Sections.{key-low, key-high, key-pair, key-block, key-connector, key-past, pair-past}
 use Rattle.state_index.proofs.key_end.Goals as goal
@@ -28,5 +29,5 @@ returns-then-section-eq-BLOCKS c =
 pub returns : goal.returns
 returns c =
     key-past _ _ _
-    (key-connector c.if-section-le-ENUMS.false c.if-section-gt-EXTERNAL_INPUTS.false c.if-section-eq-BLOCKS.false c.if-section-eq-CONNECTIONS.false c.if-section-eq-SCHEDULE.false c.if-section-eq-STATE_SLOTS.false)
+    (key-connector c.if-section-le-ENUMS.false (omega arith) c.if-section-eq-BLOCKS.false (λ e. omega arith) c.if-section-eq-SCHEDULE.false c.if-section-eq-STATE_SLOTS.false)
     c.connector_key_end-2.ensures

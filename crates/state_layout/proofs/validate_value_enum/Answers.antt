@@ -28,5 +28,5 @@ word_at-requires c =
 pub returns : goal.returns
 returns c =
     class-range _ _ c.requires c.byte_at.ensures c.if-byte_at-ne-ENUM.false c.ahead-class.ensures c.text_part.ensures c.find-f.ensures
-    c.in-At.is c.text_end.ensures c.count_at-ordinal.ensures c.if-ordinal-eq0.false
+    c.in-At.is c.text_end.ensures c.count_at-ordinal.ensures (λ e. omega arith)
     c.word_at.ensures c.text_end-2.ensures c.count_at.ensures

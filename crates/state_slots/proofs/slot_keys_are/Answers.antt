@@ -39,4 +39,4 @@ returns-then-next_stateful-to c =
 
 pub returns : goal.returns
 returns c =
-    walk-over c.loop-slot.invariant c.next_stateful.ensures c.loop-slot-test.false c.if-next_stateful-to.false (agree-over c.args.s.now)
+    walk-over c.loop-slot.invariant c.next_stateful.ensures c.loop-slot-test.false (omega arith) (agree-over c.args.s.now)

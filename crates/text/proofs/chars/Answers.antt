@@ -1,5 +1,5 @@
-use Rattle.text.proofs.Steps.{stay, onward, bad, over, passes-ascii, passes-two, passes-three, passes-four}
-use mathlib.Core.Path.{sym, ◌∙◌}
+use Rattle.text.proofs.Steps.{stay, onward, over, passes-ascii, passes-two, passes-three, passes-four}
+use mathlib.Core.Path.{◌∙◌}
 use native.Mathlib.Omega.{arith}
 use Rattle.text.proofs.chars.Goals as goal
 

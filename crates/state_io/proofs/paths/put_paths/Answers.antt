@@ -60,7 +60,7 @@ loop-i-smaller c = omega arith
 
 pub loop-i-preserved : goal.loop-i-preserved
 loop-i-preserved c =
-    putting-next c.loop-i.invariant c.loop-i-test.true c.if-index-marks-eq0.false c.word_at.ensures c.connector_key_end.ensures
+    putting-next c.loop-i.invariant c.loop-i-test.true (λ e. omega arith) c.word_at.ensures c.connector_key_end.ensures
 
 pub overflow_sub-result : goal.overflow_sub-result
 overflow_sub-result c = c.loop-i.invariant.start

@@ -30,4 +30,4 @@ bounds-index-m-2 c = omega (arith, c.find-f.ensures.at _ c.in-At.is)
 
 pub returns : goal.returns
 returns c =
-    marks-new-at c.requires c.find-f.ensures c.in-At.is c.if-index-m-ne0.false
+    marks-new-at c.requires c.find-f.ensures c.in-At.is (omega arith)

@@ -1,4 +1,4 @@
-use Rattle.text.proofs.Blocks.{blocks-passed, clean-more, clean-part}
+use Rattle.text.proofs.Blocks.{clean-more, clean-part}
 use Rattle.text.proofs.Steps.{stay}
 use native.Mathlib.Omega.{arith}
 use Rattle.text.proofs.runs.text_blocks.Goals as goal
@@ -26,9 +26,6 @@ loop-at-init c = clean-more c.opening-open.ensures (clean-more c.clean_blocks.en
 
 pub quiet-requires-in-loop-at : goal.quiet-requires-in-loop-at
 quiet-requires-in-loop-at c = omega arith
-
-pub returns-then-quiet : goal.returns-then-quiet
-returns-then-quiet c = blocks-passed _ _ _ c.loop-at.invariant (c.quiet.ensures c.if-not-quiet.false) (c.quiet-in-loop-at.ensures c.if-quiet.true)
 
 pub overflow_sub-at : goal.overflow_sub-at
 overflow_sub-at c = omega arith
