@@ -1,4 +1,4 @@
--- `lex_compare` is an order of lists. That it is total is that an `Order` has three values.
+-- `lex_compare` is an order of lists. That it is total is that an `Ordering` has three values.
 -- `agreeing` is the length of the longest front that two lists share, and what stands there decides.
 -- Assumes nothing.
 use Prim.Native.Nat.{ℕ, suc, ◌≤◌, ◌<◌}
@@ -8,18 +8,18 @@ use mathlib.Core.Path.{◌≡◌, refl, sym, ap₂, ◌∙◌}
 use native.Mathlib.Nat.{lt_trans}
 use native.Mathlib.Omega.{arith}
 use lib.ListN.{length, take, get_or}
-use Rattle.order.specs.declared.Order.{Order}
-use Rattle.order.specs.declared.Order.TheVariants.{Less, Equal, Greater}
+use Rattle.std.specs.declared.cmp.Ordering.{Ordering}
+use Rattle.std.specs.declared.cmp.Ordering.TheVariants.{Less, Equal, Greater}
 use Rattle.order.specs.Lex.{lex_compare, agreeing, then_with}
 use Rattle.order.proofs.Graph.{Compares, ended, shorter, longer, less, greater, same, only, graph, behind}
 
 -- the order of the same two lists the other way round
-abbrev pub turned : Order → Order
+abbrev pub turned : Ordering → Ordering
 turned Less = Greater
 turned Equal = Equal
 turned Greater = Less
 
-turn : {xs ys : List ℕ} {o : Order} {n : ℕ} → Compares xs ys o n → Compares ys xs (turned o) n
+turn : {xs ys : List ℕ} {o : Ordering} {n : ℕ} → Compares xs ys o n → Compares ys xs (turned o) n
 turn ended = ended
 turn shorter = longer
 turn longer = shorter
@@ -53,7 +53,7 @@ chain (same e c) (same f d) = let r = chain c d in (suc r.0, same (e ∙ f) r.1)
 pub lex-trans : (xs ys zs : List ℕ) → lex_compare xs ys ≡ Less → lex_compare ys zs ≡ Less → lex_compare xs zs ≡ Less
 lex-trans xs ys zs p q = (only (chain (rw p at (graph xs ys)) (rw q at (graph ys zs))).1).0
 
-front : {xs ys : List ℕ} {o : Order} {n : ℕ} → Compares xs ys o n → (n ≤ length xs) × (n ≤ length ys) × (take n xs ≡ take n ys)
+front : {xs ys : List ℕ} {o : Ordering} {n : ℕ} → Compares xs ys o n → (n ≤ length xs) × (n ≤ length ys) × (take n xs ≡ take n ys)
 front ended = (omega arith, omega arith, refl)
 front shorter = (omega arith, omega arith, refl)
 front longer = (omega arith, omega arith, refl)
@@ -71,21 +71,21 @@ module _ (xs ys : List ℕ) where
   agree-front = (front (graph xs ys)).2
 
 -- what stands at n of two lists, and the order that it gives
-pub data FirstDifference (xs ys : List ℕ) (n : ℕ) : Order → Type 0 where
+pub data FirstDifference (xs ys : List ℕ) (n : ℕ) : Ordering → Type 0 where
   both_end : n ≡ length xs → n ≡ length ys → FirstDifference xs ys n Equal
   left-ends : n ≡ length xs → n < length ys → FirstDifference xs ys n Less
   right-ends : n < length xs → n ≡ length ys → FirstDifference xs ys n Greater
   below : n < length xs → n < length ys → get_or xs n 0 < get_or ys n 0 → FirstDifference xs ys n Less
   above : n < length xs → n < length ys → get_or ys n 0 < get_or xs n 0 → FirstDifference xs ys n Greater
 
-after : {x y n : ℕ} {xs ys : List ℕ} {o : Order} → FirstDifference xs ys n o → FirstDifference (x ∷ xs) (y ∷ ys) (suc n) o
+after : {x y n : ℕ} {xs ys : List ℕ} {o : Ordering} → FirstDifference xs ys n o → FirstDifference (x ∷ xs) (y ∷ ys) (suc n) o
 after (both_end p q) = both_end (omega arith) (omega arith)
 after (left-ends p q) = left-ends (omega arith) (omega arith)
 after (right-ends p q) = right-ends (omega arith) (omega arith)
 after (below p q h) = below (omega arith) (omega arith) h
 after (above p q h) = above (omega arith) (omega arith) h
 
-decides : {xs ys : List ℕ} {o : Order} {n : ℕ} → Compares xs ys o n → FirstDifference xs ys n o
+decides : {xs ys : List ℕ} {o : Ordering} {n : ℕ} → Compares xs ys o n → FirstDifference xs ys n o
 decides ended = both_end refl refl
 decides shorter = left-ends refl (omega arith)
 decides longer = right-ends (omega arith) refl
@@ -97,7 +97,7 @@ decides (same e c) = after (decides c)
 pub agree_decides : (xs ys : List ℕ) → FirstDifference xs ys (agreeing xs ys) (lex_compare xs ys)
 agree_decides xs ys = decides (graph xs ys)
 
-parts : {a b x y : List ℕ} {o p : Order} {n m : ℕ} → n ≡ length a ↔ n ≡ length b → Compares a b o n → Compares x y p m → (k : ℕ) × Compares (a ++ x) (b ++ y) (then_with o p) k
+parts : {a b x y : List ℕ} {o p : Ordering} {n m : ℕ} → n ≡ length a ↔ n ≡ length b → Compares a b o n → Compares x y p m → (k : ℕ) × Compares (a ++ x) (b ++ y) (then_with o p) k
 parts f ended d = (_, d)
 parts f shorter d = absurd (omega (arith, f.0 refl))
 parts f longer d = absurd (omega (arith, f.1 refl))

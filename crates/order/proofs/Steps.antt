@@ -1,6 +1,6 @@
 -- What the loops cite: one element more that agrees, and the answer at the first difference.
 -- Assumes nothing.
-use Prim.Native.Nat.{ℕ, ◌+◌, ◌-◌, ◌≤◌, ◌<◌}
+use Prim.Native.Nat.{ℕ, min, ◌+◌, ◌-◌, ◌≤◌, ◌<◌}
 use mathlib.Core.List.{List, ◌++◌}
 use mathlib.Core.Path.{◌≡◌, refl, sym, ap, ◌∙◌}
 use mathlib.Core.Bool.{true}
@@ -11,7 +11,10 @@ use lib.ListN.{length, take, drop, get_or, take-append-drop, drop_of_length-le}
 use lib.Seq.{drop-cons, take-suc, take-take, take_all, get_or-take, length-take-le}
 use lib.Dec.{eqb}
 use borrow.Author.Tests.{eqb-true, eq-eqb}
-use Rattle.order.specs.declared.Order.{Order}
+use Rattle.std.specs.declared.cmp.Ordering.{Ordering}
+use Rattle.std.specs.declared.cmp.Ordering.TheVariants.{Less, Equal, Greater}
+use Rattle.std.specs.Ordering.{nat_cmp, MatchOrdering}
+use Rattle.std.proofs.lemmas.Cmp.{ranked}
 use Rattle.order.specs.Lex.{compared}
 use Rattle.order.proofs.Graph.{Compares, ended, shorter, longer, less, greater, only, behind}
 use Rattle.order.proofs.Laws.{FirstDifference, both_end, left-ends, right-ends, below, above}
@@ -40,7 +43,7 @@ module _ (a b : List ℕ) where
       (λ z. all_same (length a) refl (sym h) (rw e at (t.0 (eqb-true d 0 z))), λ z. eq-eqb d 0 (t.1 (ap (λ (l : List ℕ). take (length a - n + n) l) z)))
 
 module _ {a b : List ℕ} {n : ℕ} where
-  rest : {o : Order} → FirstDifference a b n o → Compares (drop n a) (drop n b) o 0
+  rest : {o : Ordering} → FirstDifference a b n o → Compares (drop n a) (drop n b) o 0
   rest (both_end p q) = rw (drop_of_length-le a {i = n} (omega arith), drop_of_length-le b {i = n} (omega arith)) ended
   rest (left-ends p q) = rw (drop_of_length-le a {i = n} (omega arith), drop-cons b n 0) shorter
   rest (right-ends p q) = rw (drop_of_length-le b {i = n} (omega arith), drop-cons a n 0) longer
@@ -48,8 +51,27 @@ module _ {a b : List ℕ} {n : ℕ} where
   rest (above p q h) = rw (drop-cons a n 0, drop-cons b n 0) (greater h)
 
   -- the converse of `agree_Decides`: behind fronts that are the same, what stands at n is the answer
-  pub found : {o : Order} → (n ≤ length a) × (n ≤ length b) × (take n a ≡ take n b) → FirstDifference a b n o → record { order = o; agree = n } ≡ compared a b
+  pub found : {o : Ordering} → (n ≤ length a) × (n ≤ length b) × (take n a ≡ take n b) → FirstDifference a b n o → record { order = o; agree = n } ≡ compared a b
   found f d =
       let g : take n a ++ drop n b ≡ b = rw f.2 (take-append-drop n b) in
       let c = rw (g, take-append-drop n a, length-take-le n a f.0, add-zero) at (behind (take n a) (rest d)) in
       rw ((only c).0, (only c).1)
+
+module _ (a b : List ℕ) (n : ℕ) where
+  -- .. the order of two bytes that differ, or of the lengths where one list ends
+  pub found-apart : (n ≤ length a) × (n ≤ length b) × (take n a ≡ take n b) → n < length a → n < length b → (get_or a n 0 ≡ get_or b n 0 → ⊥)
+      → {o : Ordering} → o ≡ nat_cmp (get_or a n 0) (get_or b n 0) → record { order = o; agree = n } ≡ compared a b
+  found-apart f h k ne {o = o} e = go o (ranked (get_or a n 0) (get_or b n 0) o e)
+    where
+      go : (o : Ordering) → MatchOrdering o (get_or a n 0 < get_or b n 0) (get_or a n 0 ≡ get_or b n 0) (get_or b n 0 < get_or a n 0) → record { order = o; agree = n } ≡ compared a b
+      go Less m = found f (below h k m)
+      go Equal m = absurd (ne m)
+      go Greater m = found f (above h k m)
+
+  pub found-end : (n ≤ length a) × (n ≤ length b) × (take n a ≡ take n b) → n ≡ min (length a) (length b) → {o : Ordering} → o ≡ nat_cmp (length a) (length b) → {m : ℕ} → m ≡ n → record { order = o; agree = m } ≡ compared a b
+  found-end f e {o = o} i {m = m} h = rw h (go o (ranked (length a) (length b) o i))
+    where
+      go : (o : Ordering) → MatchOrdering o (length a < length b) (length a ≡ length b) (length b < length a) → record { order = o; agree = n } ≡ compared a b
+      go Less m = found f (left-ends (omega arith) (omega arith))
+      go Equal m = found f (both_end (omega arith) (omega arith))
+      go Greater m = found f (right-ends (omega arith) (omega arith))

@@ -1,11 +1,11 @@
 -- The order of two lists of numbers by their first difference, the shorter first where there is none; and how many agree before it.
 use Rattle.std.specs.Prelude.{ℕ, suc, List, [], ◌∷◌, cond, ltb, eqb}
-use Rattle.order.specs.declared.Order.{Order}
-use Rattle.order.specs.declared.Order.TheVariants.{Less, Equal, Greater}
+use Rattle.std.specs.declared.cmp.Ordering.{Ordering}
+use Rattle.std.specs.declared.cmp.Ordering.TheVariants.{Less, Equal, Greater}
 use Rattle.order.specs.declared.Compared.{Compared}
 
 -- document 01, state_manifest_codec.rs: "compare by plain bytes"
-unfoldable pub lex_compare : List ℕ → List ℕ → Order
+unfoldable pub lex_compare : List ℕ → List ℕ → Ordering
 lex_compare [] [] = Equal
 lex_compare [] (y ∷ ys) = Less
 lex_compare (x ∷ xs) [] = Greater
@@ -22,7 +22,7 @@ abbrev pub compared : List ℕ → List ℕ → Compared
 compared xs ys = record { order = lex_compare xs ys; agree = agreeing xs ys }
 
 -- one order after another, the Rust's `then_with`: the second decides where the first finds no difference
-abbrev pub then_with : Order → Order → Order
+abbrev pub then_with : Ordering → Ordering → Ordering
 then_with Less q = Less
 then_with Equal q = q
 then_with Greater q = Greater

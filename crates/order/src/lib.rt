@@ -4,25 +4,13 @@
 ghost use Rattle.std.specs.Prelude.{◌≡◌, true, ◌+◌, ◌<◌, ◌≤◌, min, length, take};
 ghost use Rattle.order.specs.Lex.{compared};
 
-#[derive(Clone, Copy)]
-pub enum Order {
-    Less,
-    Equal,
-    Greater,
-}
+use std::cmp::Ordering;
 
 // The order, and how many bytes at the front are the same.
-#[derive(Clone, Copy)]
+#[derive(Clone, Copy, Debug, PartialEq, Eq)]
 pub struct Compared {
-    pub order: Order,
+    pub order: Ordering,
     pub agree: usize,
-}
-
-// The lesser number.
-fn least(x: usize, y: usize) -> usize
-    ensures { result ≡ min x y }
-{
-    if x < y { x } else { y }
 }
 
 // 0 just where n bytes more are the same. Where n is a constant, a few vector instructions: counted from 0, so that the number of turns is known.
@@ -45,7 +33,7 @@ fn same_blocks(a: &[u8], b: &[u8], from: usize, n: usize) -> usize
     requires from_in_bounds { (from ≤ length a.now) × (from ≤ length b.now) × (take from a.now ≡ take from b.now) }
     ensures { (result ≤ length a.now) × (result ≤ length b.now) × (take result a.now ≡ take result b.now) }
 {
-    let end = least(a.len(), b.len());
+    let end = a.len().min(b.len());
     let mut at = from;
     while end - at >= n {
         if differ(a, b, at, n) != 0 {
@@ -77,11 +65,10 @@ pub fn same(a: &[u8], b: &[u8]) -> bool
             return differ(a, b, end - 8, 8) == 0;
         }
     }
-    while at < end {
-        if a[at] != b[at] {
+    for i in at..end {
+        if a[i] != b[i] {
             return false;
         }
-        at += 1;
     }
     true
 }
@@ -90,43 +77,24 @@ pub fn same(a: &[u8], b: &[u8]) -> bool
 pub fn compare(a: &[u8], b: &[u8]) -> Compared
     ensures { result ≡ compared a.now b.now }
 {
-    let end = least(a.len(), b.len());
+    let end = a.len().min(b.len());
     let mut i = same_blocks(a, b, 0, 64);
     i = same_blocks(a, b, i, 16);
     i = same_blocks(a, b, i, 8);
     i = same_blocks(a, b, i, 4);
     i = same_blocks(a, b, i, 2);
-    while i < end {
-        let x = a[i];
-        let y = b[i];
-        if x < y {
+    for k in i..end {
+        let x = a[k];
+        let y = b[k];
+        if x != y {
             return Compared {
-                order: Order::Less,
-                agree: i,
+                order: x.cmp(&y),
+                agree: k,
             };
         }
-        if y < x {
-            return Compared {
-                order: Order::Greater,
-                agree: i,
-            };
-        }
-        i += 1;
     }
-    if i < b.len() {
-        Compared {
-            order: Order::Less,
-            agree: i,
-        }
-    } else if i < a.len() {
-        Compared {
-            order: Order::Greater,
-            agree: i,
-        }
-    } else {
-        Compared {
-            order: Order::Equal,
-            agree: i,
-        }
+    Compared {
+        order: a.len().cmp(&b.len()),
+        agree: end,
     }
 }

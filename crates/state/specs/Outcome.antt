@@ -1,16 +1,31 @@
 -- What a reading comes to, and what each type of answer says of it.
-use Rattle.std.specs.Prelude.{ℕ, zero, suc, ◌+◌, ◌-◌, ◌^◌, min, Bool, true, false}
-use Rattle.state.specs.declared.Step.{Step}
-use Rattle.state.specs.declared.Step.TheVariants as step
-use Rattle.state.specs.declared.Field.{Field}
-use Rattle.state.specs.declared.Field.TheVariants as field
-use Rattle.state.specs.declared.Answer.{Answer}
-use Rattle.state.specs.declared.Answer.TheVariants as answer
+use Rattle.std.specs.Prelude.{ℕ, zero, suc, ◌+◌, ◌-◌, ◌^◌, min, Bool, true, false, Result, Ok, Err}
+use Rattle.state.specs.declared.Question.{Question}
+use Rattle.state.specs.declared.Refusal.{Refusal}
 
 -- a value and the position after it; or the number of the question that was answered no, and the position at which it is refused
 pub data Outcome (A : Type 0) : Type 0 where
   got : A → (next : ℕ) → Outcome A
   refused : (question position : ℕ) → Outcome A
+
+-- document 01, "A refusal is number and offset": as code answers it, at a position or an offset
+abbrev pub refusal : (question at : ℕ) → Refusal ℕ
+refusal q p = record { question = record { 0 = q }; at = p }
+
+abbrev pub refuses : {A : Type 0} → (question at : ℕ) → Result A (Refusal ℕ)
+refuses q p = Err (refusal q p)
+
+-- the answer of code that asks questions: yes to all, or the first that is answered no. An answer is 0 for yes and a question's number for no
+abbrev pub said : (answer : ℕ) → Result Unit Question
+said zero = Ok tt
+said (suc q) = Err (record { 0 = suc q })
+
+-- what code answers that walks over a value: where it ends; and code that reads a number: the number, and where it ends
+abbrev pub Stepped : Type 0
+Stepped = Result ℕ (Refusal ℕ)
+
+abbrev pub NumberRead : Type 0
+NumberRead = Result (ℕ × ℕ) (Refusal ℕ)
 
 module _ {A B : Type 0} where
   -- one reading after another: the first refusal stands
@@ -29,27 +44,19 @@ module _ {A : Type 0} where
   heed zero p k = k
   heed (suc q) p k = refused (suc q) p
 
-  -- the answer of code that walks over a value
-  abbrev pub step_of : Outcome A → Step
-  step_of (got v n) = step.Next n
-  step_of (refused q p) = step.Refused q p
+  abbrev pub step_of : Outcome A → Stepped
+  step_of (got v n) = Ok n
+  step_of (refused q p) = refuses q p
 
--- the answer of code that reads a number
-abbrev pub field_of : Outcome ℕ → Field
-field_of (got v n) = field.Value v n
-field_of (refused q p) = field.Refused q p
+abbrev pub field_of : Outcome ℕ → NumberRead
+field_of (got v n) = Ok (v, n)
+field_of (refused q p) = refuses q p
 
 -- a number's reading with the number forgotten
-abbrev pub step_of_field : Field → Step
-step_of_field (field.Value v n) = step.Next n
-step_of_field (field.Refused q p) = step.Refused q p
+abbrev pub step_of_field : NumberRead → Stepped
+step_of_field (Ok f) = Ok f.1
+step_of_field (Err e) = Err e
 
 -- document 01, state_wire.rs: "Offsets are base plus position and stop at 2^64 − 1"
 abbrev pub offset_of : (base position : ℕ) → ℕ
 offset_of base position = min (base + position) (2 ^ 64 - 1)
-
--- the answer of a call with a base: document 01, "A refusal is number and offset"
-module _ {A : Type 0} where
-  abbrev pub answer_of : (base : ℕ) → Outcome A → Answer
-  answer_of base (got v n) = answer.Accepted
-  answer_of base (refused q p) = answer.Refused q (offset_of base p)

@@ -4,26 +4,22 @@
 // The longest manifest, and the highest limit of a string.
 pub const MAX_SNAPSHOT_BYTES: usize = 67108864;
 
-// Reading goes on at a position; or a question was answered no, at a position.
-#[derive(Clone, Copy)]
-pub enum Step {
-    Next(usize),
-    Refused(u8, usize),
+// A question of document 01's list, by its number.
+#[derive(Clone, Copy, PartialEq, Eq)]
+pub struct Question(pub u8);
+
+// The question that was answered no, and where: at a position of the bytes, or at an offset, which counts from a base.
+#[derive(Clone, Copy, PartialEq, Eq)]
+pub struct Refusal<P> {
+    pub question: Question,
+    pub at: P,
 }
 
-// A number that was read and the position after it; or the refusal.
-#[derive(Clone, Copy)]
-pub enum Field {
-    Value(u64, usize),
-    Refused(u8, usize),
-}
+// Where reading goes on.
+pub type Step = Result<usize, Refusal<usize>>;
 
-// What a call with a base offset answers: acceptance, or the question's number and the offset.
-#[derive(Clone, Copy)]
-pub enum Answer {
-    Accepted,
-    Refused(u8, u64),
-}
+// A number that was read, and where reading goes on.
+pub type Field = Result<(u64, usize), Refusal<usize>>;
 
 // The twelve section starts, counted from the manifest's first byte.
 #[derive(Clone, Copy)]
@@ -31,28 +27,33 @@ pub struct Starts {
     pub at: [u32; 12],
 }
 
-// What a call on a manifest answers: acceptance with the starts; or the refusal, and then the starts are 0.
-#[derive(Clone, Copy)]
-pub struct Decoded {
-    pub answer: Answer,
-    pub starts: Starts,
+// What a call on a manifest answers: the starts after acceptance.
+pub type Decoded = Result<Starts, Refusal<u64>>;
+
+// What a manifest costs.
+#[derive(Clone, Copy, PartialEq, Eq)]
+pub struct Units {
+    pub words: u64,
+    pub units: u64,
 }
 
-// What a call for units answers: the state words and the units; or the refusal.
-#[derive(Clone, Copy)]
-pub enum Units {
-    Of(u64, u64),
-    Refused(u8, u64),
+// Where two manifests first differ: section, part, entry place and inner place.
+#[derive(Clone, Copy, PartialEq, Eq)]
+pub struct Difference {
+    pub section: u8,
+    pub part: u8,
+    pub entry: usize,
+    pub inner: usize,
 }
 
-// What a call on a snapshot's manifest and a target's answers: nothing differs; or section, part, entry place and inner place of the first
-// difference; or the refusal of one of the two.
-#[derive(Clone, Copy)]
-pub enum Verdict {
-    Compatible,
-    Differs(u8, u8, usize, usize),
-    SnapshotRefused(u8, u64),
-    TargetRefused(u8, u64),
+// What comparing comes to: nothing differs, or this does first.
+pub type Verdict = Result<(), Difference>;
+
+// Which of two manifests is refused, the snapshot's or the target's.
+#[derive(Clone, Copy, PartialEq, Eq)]
+pub enum Side {
+    Snapshot(Refusal<u64>),
+    Target(Refusal<u64>),
 }
 
 // The parts of a verdict.

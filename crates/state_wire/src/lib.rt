@@ -6,38 +6,27 @@ ghost use Rattle.state.specs.Bytes.{span, number_of};
 ghost use Rattle.state.specs.Outcome.{step_of, field_of, step_of_field, offset_of};
 ghost use Rattle.state_wire.specs.Fields.{read_span, read_number, read_tag, bounded_count, read_text, text_of, max_snapshot_bytes};
 
-use state::{Field, MAX_SNAPSHOT_BYTES, Step};
+use state::{Field, MAX_SNAPSHOT_BYTES, Question, Refusal, Step};
 
 // The offset of a position: it stops at the largest number.
 pub fn offset(base: u64, position: usize) -> u64
     ensures { result ≡ offset_of base position }
 {
-    let most: u64 = 0xffff_ffff_ffff_ffff;
-    if most - base < position as u64 {
-        most
-    } else {
-        base + position as u64
-    }
+    base.saturating_add(position as u64)
 }
 
 // How many bytes are left.
 pub fn remaining(s: &[u8], at: usize) -> usize
     ensures { result ≡ length s.now - at }
 {
-    if s.len() < at { 0 } else { s.len() - at }
+    s.len().saturating_sub(at)
 }
 
 // Question 3: are there n bytes?
 fn enough(s: &[u8], at: usize, n: usize) -> bool
     ensures { result ≡ leb (at + n) (length s.now) }
 {
-    if s.len() < at {
-        return false;
-    }
-    if s.len() - at < n {
-        return false;
-    }
-    true
+    at <= s.len() && n <= s.len() - at
 }
 
 // The position after n bytes.
@@ -45,23 +34,13 @@ pub fn take(s: &[u8], at: usize, n: usize) -> Step
     ensures { result ≡ step_of (read_span n s.now at) }
 {
     if enough(s, at, n) {
-        Step::Next(at + n)
+        Ok(at + n)
     } else {
-        Step::Refused(3, at)
+        Err(Refusal {
+            question: Question(3),
+            at,
+        })
     }
-}
-
-// The number that four bytes are, and that two words are.
-fn word(a: u8, b: u8, c: u8, d: u8) -> u32
-    ensures { result ≡ a + 256 * (b + 256 * (c + 256 * d)) }
-{
-    a as u32 + 256 * (b as u32 + 256 * (c as u32 + 256 * d as u32))
-}
-
-fn pair(low: u32, high: u32) -> u64
-    ensures { result ≡ low + 4294967296 * high }
-{
-    low as u64 + 4294967296 * high as u64
 }
 
 // The number at a position that has its bytes.
@@ -69,29 +48,26 @@ pub fn u32_at(s: &[u8], at: usize) -> u32
     requires { at + 4 ≤ length s.now }
     ensures { result ≡ number_of (span s.now at (at + 4)) }
 {
-    word(s[at], s[at + 1], s[at + 2], s[at + 3])
+    u32::from_le_bytes([s[at], s[at + 1], s[at + 2], s[at + 3]])
 }
 
 pub fn u64_at(s: &[u8], at: usize) -> u64
     requires { at + 8 ≤ length s.now }
     ensures { result ≡ number_of (span s.now at (at + 8)) }
 {
-    pair(u32_at(s, at), u32_at(s, at + 4))
-}
-
-fn wide(x: u8) -> u64
-    ensures { result ≡ x }
-{
-    x as u64
+    u64::from(u32_at(s, at)) + 4294967296 * u64::from(u32_at(s, at + 4))
 }
 
 pub fn read_u8(s: &[u8], at: usize) -> Field
     ensures { result ≡ field_of (read_number 1 s.now at) }
 {
     if enough(s, at, 1) {
-        Field::Value(wide(s[at]), at + 1)
+        Ok((u64::from(s[at]), at + 1))
     } else {
-        Field::Refused(3, at)
+        Err(Refusal {
+            question: Question(3),
+            at,
+        })
     }
 }
 
@@ -99,9 +75,12 @@ pub fn read_u32(s: &[u8], at: usize) -> Field
     ensures { result ≡ field_of (read_number 4 s.now at) }
 {
     if enough(s, at, 4) {
-        Field::Value(u32_at(s, at) as u64, at + 4)
+        Ok((u64::from(u32_at(s, at)), at + 4))
     } else {
-        Field::Refused(3, at)
+        Err(Refusal {
+            question: Question(3),
+            at,
+        })
     }
 }
 
@@ -109,9 +88,12 @@ pub fn read_u64(s: &[u8], at: usize) -> Field
     ensures { result ≡ field_of (read_number 8 s.now at) }
 {
     if enough(s, at, 8) {
-        Field::Value(u64_at(s, at), at + 8)
+        Ok((u64_at(s, at), at + 8))
     } else {
-        Field::Refused(3, at)
+        Err(Refusal {
+            question: Question(3),
+            at,
+        })
     }
 }
 
@@ -120,13 +102,16 @@ pub fn read_tag(s: &[u8], at: usize, known: u8) -> Field
     ensures { result ≡ field_of (read_tag known s.now at) }
 {
     let tag = read_u8(s, at);
-    let Field::Value(t, next) = tag else {
+    let Ok((t, next)) = tag else {
         return tag;
     };
-    if t < known as u64 {
-        Field::Value(t, next)
+    if t < u64::from(known) {
+        Ok((t, next))
     } else {
-        Field::Refused(6, next)
+        Err(Refusal {
+            question: Question(6),
+            at: next,
+        })
     }
 }
 
@@ -134,13 +119,13 @@ pub fn read_tag(s: &[u8], at: usize, known: u8) -> Field
 pub fn bounded_count(s: &[u8], next: usize, count: u64, least: u64) -> Field
     ensures { result ≡ field_of (bounded_count least s.now count next) }
 {
-    if least == 0 {
-        return Field::Value(count, next);
-    }
-    if count <= remaining(s, next) as u64 / least {
-        Field::Value(count, next)
+    if least == 0 || count <= remaining(s, next) as u64 / least {
+        Ok((count, next))
     } else {
-        Field::Refused(7, next)
+        Err(Refusal {
+            question: Question(7),
+            at: next,
+        })
     }
 }
 
@@ -148,10 +133,7 @@ pub fn bounded_count(s: &[u8], next: usize, count: u64, least: u64) -> Field
 pub fn step_of(f: Field) -> Step
     ensures { result ≡ step_of_field f }
 {
-    match f {
-        Field::Value(_, next) => Step::Next(next),
-        Field::Refused(question, position) => Step::Refused(question, position),
-    }
+    f.map(|(_, next)| next)
 }
 
 // A string of at most `limit` bytes: its length, then its text.
@@ -159,22 +141,28 @@ pub fn string_bounded(s: &[u8], at: usize, limit: usize) -> Step
     ensures { result ≡ step_of (read_text limit s.now at) }
 {
     let length = read_u32(s, at);
-    let Field::Value(n, start) = length else {
+    let Ok((n, start)) = length else {
         return step_of(length);
     };
     let size = n as usize;
     if limit < size {
-        return Step::Refused(4, at);
+        return Err(Refusal {
+            question: Question(4),
+            at,
+        });
     }
     let bytes = take(s, start, size);
-    let Step::Next(next) = bytes else {
+    let Ok(next) = bytes else {
         return bytes;
     };
     let valid = text::valid_up_to(part(s, start, next));
     if valid == size {
-        Step::Next(next)
+        Ok(next)
     } else {
-        Step::Refused(5, start + valid)
+        Err(Refusal {
+            question: Question(5),
+            at: start + valid,
+        })
     }
 }
 
@@ -188,16 +176,7 @@ pub fn string(s: &[u8], at: usize) -> Step
 pub fn part(s: &[u8], a: usize, b: usize) -> &[u8]
     ensures { result.now ≡ span s.now a b }
 {
-    if b < a {
-        return &s[..0];
-    }
-    if b <= s.len() {
-        return &s[a..b];
-    }
-    if a <= s.len() {
-        return &s[a..];
-    }
-    &s[..0]
+    s.get(a..b.min(s.len())).unwrap_or(&s[..0])
 }
 
 // The text of a string, as the part of the lent bytes that it occupies: empty where the reading is refused.
@@ -205,8 +184,8 @@ pub fn string_text(s: &[u8], at: usize, limit: usize) -> &[u8]
     ensures { result.now ≡ text_of (read_text limit s.now at) }
 {
     let read = string_bounded(s, at, limit);
-    match read {
-        Step::Next(next) => part(s, at + 4, next),
-        Step::Refused(_, _) => part(s, 0, 0),
-    }
+    let Ok(next) = read else {
+        return part(s, 0, 0);
+    };
+    part(s, at + 4, next)
 }

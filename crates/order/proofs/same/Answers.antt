@@ -33,26 +33,11 @@ differ-requires-then-end-at-2 c = (omega arith, omega arith, shorter-front _ _ _
 pub returns-then-end-at-2 : goal.returns-then-end-at-2
 returns-then-end-at-2 c = last-tells c.args.a.now c.args.b.now 8 c.differ-then-end-at-2.result (omega arith) (omega arith) c.differ-then-end-at-2.ensures
 
-pub loop-at-init : goal.loop-at-init
-loop-at-init c = (omega (arith, c.same_blocks-at-3.ensures.0), omega arith, c.same_blocks-at-3.ensures.2)
+pub returns-then-a-i : goal.returns-then-a-i
+returns-then-a-i c = (λ e. absurd (true≢false (sym e)), λ e. absurd (c.if-a-i.true (ap (λ (l : List ℕ). get_or l c.loop-i.i 0) e)))
 
-pub bounds-a-at : goal.bounds-a-at
-bounds-a-at c = omega arith
-
-pub bounds-b-at : goal.bounds-b-at
-bounds-b-at c = omega arith
-
-pub returns-then-a-at : goal.returns-then-a-at
-returns-then-a-at c = (λ e. absurd (true≢false (sym e)), λ e. absurd (c.if-a-at.true (ap (λ (l : List ℕ). get_or l c.loop-at.at 0) e)))
-
-pub overflow_add-at : goal.overflow_add-at
-overflow_add-at c = omega arith
-
-pub loop-at-smaller : goal.loop-at-smaller
-loop-at-smaller c = omega arith
-
-pub loop-at-preserved : goal.loop-at-preserved
-loop-at-preserved c = (omega arith, c.loop-at.invariant.1, one_more c.args.a.now c.args.b.now c.loop-at.at c.loop-at.invariant.2 (omega arith) (omega arith) c.if-a-at.false)
+pub loop-i-preserved : goal.loop-i-preserved
+loop-i-preserved c = (omega arith, c.loop-i.invariant.1, one_more c.args.a.now c.args.b.now c.loop-i.i c.loop-i.invariant.2 (omega arith) (omega arith) (omega arith))
 
 pub returns : goal.returns
-returns c = (λ e. all_same c.args.a.now c.args.b.now c.loop-at.at (omega arith) (omega arith) c.loop-at.invariant.2, λ e. refl)
+returns c = (λ e. all_same c.args.a.now c.args.b.now c.loop-i.i (omega arith) (omega arith) c.loop-i.invariant.2, λ e. refl)

@@ -11,7 +11,7 @@ pub overflow_add-result : goal.overflow_add-result
 overflow_add-result c = let a = c.args in omega (arith, there 1 a.s.now a.at c.enough.ensures c.if-enough.true)
 
 pub returns-then-enough : goal.returns-then-enough
-returns-then-enough c = let a = c.args in number-next 1 a.s.now a.at c.enough.ensures c.if-enough.true (c.wide.ensures ∙ number-one a.s.now a.at (there 1 a.s.now a.at c.enough.ensures c.if-enough.true))
+returns-then-enough c = let a = c.args in number-next 1 a.s.now a.at c.enough.ensures c.if-enough.true (c.from.ensures ∙ number-one a.s.now a.at (there 1 a.s.now a.at c.enough.ensures c.if-enough.true))
 
 pub returns-else-enough : goal.returns-else-enough
 returns-else-enough c = search fields

@@ -14,7 +14,7 @@ pub returns-in_default-bytes : goal.returns-in_default-bytes
 returns-in_default-bytes c = search fields
 
 pub overflow_add-result : goal.overflow_add-result
-overflow_add-result c = let h = valid-fits _ _ _ c.take-bytes.ensures c.in-Next.is (c.valid_up_to-valid.ensures ∙ ap valid_up_to c.part.ensures) in omega arith
+overflow_add-result c = let h = valid-fits _ _ _ c.take-bytes.ensures c.in-Ok-bytes.is (c.valid_up_to-valid.ensures ∙ ap valid_up_to c.part.ensures) in omega arith
 
 pub returns-then-valid-size : goal.returns-then-valid-size
 returns-then-valid-size c = let v = c.valid_up_to-valid.ensures ∙ ap valid_up_to c.part.ensures in search fields
