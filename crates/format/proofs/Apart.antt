@@ -6,7 +6,7 @@ use mathlib.Core.Bool.{true}
 use mathlib.Core.List.{List, [], ◌++◌, append-nil}
 use lib.ListN.{length, get_or, take, drop, take-append-drop}
 use lib.Seq.{take-length}
-use Rattle.order.specs.declared.Order.{Order}
+use Rattle.std.specs.declared.cmp.Ordering.{Ordering}
 use Rattle.order.specs.Lex.{agreeing}
 use Rattle.order.proofs.Laws.{FirstDifference, both_end, left-ends, right-ends, below, above, agree-front, agree_decides}
 use Rattle.format.specs.Format.{Fmt, El, encode}
@@ -48,7 +48,7 @@ written_apart limit f t v w hv hw ne = go (agree_decides x y)
     inside : n < length x → n < length y → (get_or x n 0 ≡ get_or y n 0 → ⊥) → Apart x y
     inside p q d = record { at = n; in-first = p; in-second = q; before = agree-front x y; there = d }
 
-    go : {o : Order} → FirstDifference x y n o → Apart x y
+    go : {o : Ordering} → FirstDifference x y n o → Apart x y
     go (both_end p q) = first_ends p
     go (left-ends p q) = first_ends p
     go (right-ends p q) = second-ends q

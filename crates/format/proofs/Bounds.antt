@@ -8,10 +8,9 @@ use mathlib.Core.List.{List, []}
 use lib.ListN.{length}
 use lib.Dec.{ltb, leb}
 use borrow.Author.Tests.{ltb-true}
+use Rattle.std.specs.Prelude.{Ok}
 use Rattle.state.specs.Bytes.{span, number_of}
-use Rattle.state.specs.Outcome.{Outcome, got, bind}
-use Rattle.state.specs.declared.Step.{Step}
-use Rattle.state.specs.declared.Step.TheVariants as step
+use Rattle.state.specs.Outcome.{Outcome, got, bind, Stepped}
 use Rattle.state.proofs.Outcome.{Yields, this, yielded, yields-so, yields-ask, yields-bind, step-yields}
 use Rattle.state_wire.specs.Fields.{read_tag, bounded_count, read_count}
 use Rattle.state_wire.proofs.Fields.{yields-number, yields-text}
@@ -77,7 +76,7 @@ module _ (limit : ℕ) (s : List ℕ) where
       yields-so (yields-list s u (read limit k) (read limit r) (least k) (least r) (ahead k) (ahead r) w l at) λ vs z q. (omega arith, q.2)
 
   -- the same of code that walks over the bytes
-  pub next-within : (f : Fmt) (at : ℕ) {r : Step} {n : ℕ} → at ≤ length s → r ≡ scan limit f s at → r ≡ step.Next n → (at + least f ≤ n) × (n ≤ length s)
+  pub next-within : (f : Fmt) (at : ℕ) {r : Stepped} {n : ℕ} → at ≤ length s → r ≡ scan limit f s at → r ≡ Ok n → (at + least f ≤ n) × (n ≤ length s)
   unfolding scan
   next-within f at h e i = (step-yields (ahead f at h) e i).2
 

@@ -7,12 +7,10 @@ use mathlib.Core.List.{List, [], ◌∷◌}
 use lib.ListN.{length}
 use lib.Dec.{leb}
 use borrow.Author.Tests.{leb-true}
+use Rattle.state.specs.declared.Refusal.{Refusal}
+use Rattle.std.specs.Prelude.{Ok, Err}
 use Rattle.state.specs.Bytes.{span, number_of}
-use Rattle.state.specs.Outcome.{field_of, step_of_field}
-use Rattle.state.specs.declared.Step.{Step}
-use Rattle.state.specs.declared.Step.TheVariants as step
-use Rattle.state.specs.declared.Field.{Field}
-use Rattle.state.specs.declared.Field.TheVariants as field
+use Rattle.state.specs.Outcome.{field_of, step_of_field, Stepped, NumberRead, refuses}
 use Rattle.state.proofs.Outcome.{value-got, value-refused, value-yields, this, yields-ask, yields-bind, onward, asked, step-bind, step-ask, step_keeps}
 use Rattle.state_wire.proofs.Fields.{yields-number}
 use Rattle.state_wire.specs.Fields.{read_number, bounded_count, read_count}
@@ -33,16 +31,16 @@ module _ (limit : ℕ) (u : Rule) (k r : Fmt) (s : List ℕ) (n at : ℕ) (ks : 
       ∙ ap (asked (after_entry u (span s (from u at) m) ks) 9 e) (step_keeps (entries u (read limit k) (read limit r) s n e (kept u (span s (from u at) m) ks)) (λ vs. (v, w) ∷ vs)))
 
 -- what a loop keeps: the whole answer is that for the entries left, from p on, held against the keys ks
-pub record Going (whole : Step) (limit : ℕ) (u : Rule) (k r : Fmt) (s : List ℕ) (left p : ℕ) (ks : List (List ℕ)) : Type 0 where
+pub record Going (whole : Stepped) (limit : ℕ) (u : Rule) (k r : Fmt) (s : List ℕ) (left p : ℕ) (ks : List (List ℕ)) : Type 0 where
   pub is : whole ≡ scan_entries limit u k r s left p ks
   pub here : p ≤ length s
 
-module _ (s : List ℕ) (at w l : ℕ) {g : Field} (e : g ≡ field_of (read_number w s at)) where
-  pub count-stop : {q p : ℕ} → g ≡ field.Refused q p → g ≡ field_of (read_count w l s at)
+module _ (s : List ℕ) (at w l : ℕ) {g : NumberRead} (e : g ≡ field_of (read_number w s at)) where
+  pub count-stop : {d : Refusal ℕ} → g ≡ Err d → g ≡ field_of (read_count w l s at)
   unfolding read_count
   count-stop h = h ∙ rw (value-refused (read_number w s at) e h)
 
-  pub count-on : {n m : ℕ} {r : Field} → g ≡ field.Value n m → r ≡ field_of (bounded_count l s n m) → r ≡ field_of (read_count w l s at)
+  pub count-on : {n m : ℕ} {r : NumberRead} → g ≡ Ok (n, m) → r ≡ field_of (bounded_count l s n m) → r ≡ field_of (read_count w l s at)
   unfolding read_count
   count-on h i = i ∙ rw (value-got (read_number w s at) e h)
 
@@ -51,22 +49,22 @@ module _ (s : List ℕ) (at w l : ℕ) where
   abbrev Counted : ℕ → ℕ → Type 0
   Counted n m = (n ≡ number_of (span s at (at + w))) × (m ≡ at + w) × (m ≤ length s) × (n * l ≤ length s - m)
 
-  pub counted-fits : {g : Field} {n m : ℕ} → g ≡ field_of (read_count w l s at) → g ≡ field.Value n m → Counted n m
+  pub counted-fits : {g : NumberRead} {n m : ℕ} → g ≡ field_of (read_count w l s at) → g ≡ Ok (n, m) → Counted n m
   unfolding read_count bounded_count
   counted-fits = value-yields {P = Counted} (yields-bind (yields-number w s at) λ n m p. yields-ask (leb (n * l) (length s - m)) 7 m λ e.
       this (p.2 ∙ ap (λ (x : ℕ). number_of (span s at x)) p.0, p.0, p.1, leb-true _ _ e))
 
-module _ (limit : ℕ) (s : List ℕ) (at w l : ℕ) (u : Rule) (k r : Fmt) {g : Field} (e : g ≡ field_of (read_count w l s at)) where
-  pub list-stop : {x : Step} {q p : ℕ} → g ≡ field.Refused q p → x ≡ step_of_field g → x ≡ scan limit (list w l u k r) s at
+module _ (limit : ℕ) (s : List ℕ) (at w l : ℕ) (u : Rule) (k r : Fmt) {g : NumberRead} (e : g ≡ field_of (read_count w l s at)) where
+  pub list-stop : {x : Stepped} {d : Refusal ℕ} → g ≡ Err d → x ≡ step_of_field g → x ≡ scan limit (list w l u k r) s at
   unfolding scan read
   list-stop h i = i ∙ ap step_of_field h ∙ rw (value-refused (read_count w l s at) e h)
 
-  pub going_start : {n m : ℕ} → g ≡ field.Value n m → Going (scan limit (list w l u k r) s at) limit u k r s n m []
+  pub going_start : {n m : ℕ} → g ≡ Ok (n, m) → Going (scan limit (list w l u k r) s at) limit u k r s n m []
   unfolding scan scan_entries read
   going_start h = record { is = rw (value-got (read_count w l s at) e h); here = (counted-fits s at w l e h).2 }
 
-module _ {whole : Step} {limit : ℕ} {u : Rule} {k r : Fmt} {s : List ℕ} {left p : ℕ} {ks : List (List ℕ)} (g : Going whole limit u k r s left p ks) where
-  pub going_end : left ≤ 0 → after_all u ks ≡ true → step.Next p ≡ whole
+module _ {whole : Stepped} {limit : ℕ} {u : Rule} {k r : Fmt} {s : List ℕ} {left p : ℕ} {ks : List (List ℕ)} (g : Going whole limit u k r s left p ks) where
+  pub going_end : left ≤ 0 → after_all u ks ≡ true → Ok p ≡ whole
   unfolding scan_entries
   going_end h i = let z : left ≡ 0 = omega arith in sym (g.is ∙ rw (z, i))
 
@@ -76,20 +74,20 @@ module _ {whole : Step} {limit : ℕ} {u : Rule} {k r : Fmt} {s : List ℕ} {lef
         asked (after_entry u (span s (from u p) m) ks) 9 e (scan_entries limit u k r s (left - 1) e (kept u (span s (from u p) m) ks)))))
     turned = let z : left ≡ suc (left - 1) = omega arith in g.is ∙ ap (λ (x : ℕ). scan_entries limit u k r s x p ks) z ∙ scan-entries limit u k r s (left - 1) p ks
 
-    module _ {x : Step} (ek : x ≡ scan limit k s p) where
-      pub going-key-stop : {q n : ℕ} → x ≡ step.Refused q n → x ≡ whole
+    module _ {x : Stepped} (ek : x ≡ scan limit k s p) where
+      pub going-key-stop : {d : Refusal ℕ} → x ≡ Err d → x ≡ whole
       going-key-stop i = i ∙ sym (turned ∙ rw (← ek, i))
 
-      module _ {m : ℕ} (ik : x ≡ step.Next m) where
-        pub going-key-low : after_key u (span s (from u p) m) ks ≡ false → step.Refused 9 m ≡ whole
+      module _ {m : ℕ} (ik : x ≡ Ok m) where
+        pub going-key-low : after_key u (span s (from u p) m) ks ≡ false → refuses 9 m ≡ whole
         going-key-low b = sym (turned ∙ rw (← ek, ik, b))
 
-        module _ (bk : after_key u (span s (from u p) m) ks ≡ true) {y : Step} (er : y ≡ scan limit r s m) where
-          pub going-rest-stop : {q n : ℕ} → y ≡ step.Refused q n → y ≡ whole
+        module _ (bk : after_key u (span s (from u p) m) ks ≡ true) {y : Stepped} (er : y ≡ scan limit r s m) where
+          pub going-rest-stop : {d : Refusal ℕ} → y ≡ Err d → y ≡ whole
           going-rest-stop i = i ∙ sym (turned ∙ rw (← ek, ik, bk, ← er, i))
 
-          module _ {e : ℕ} (ir : y ≡ step.Next e) where
-            pub going-low : after_entry u (span s (from u p) m) ks ≡ false → step.Refused 9 e ≡ whole
+          module _ {e : ℕ} (ir : y ≡ Ok e) where
+            pub going-low : after_entry u (span s (from u p) m) ks ≡ false → refuses 9 e ≡ whole
             going-low b = sym (turned ∙ rw (← ek, ik, bk, ← er, ir, b))
 
             pub going_on : {next : List (List ℕ)} → after_entry u (span s (from u p) m) ks ≡ true → kept u (span s (from u p) m) ks ≡ next → Going whole limit u k r s (left - 1) e next
@@ -105,7 +103,7 @@ forgets limit k r s zero at ks = refl
 forgets limit k r s (suc n) at ks = refl
 
 -- its entries, where they are keys alone
-pub going-free : {whole : Step} {limit : ℕ} {k : Fmt} {s : List ℕ} {left p : ℕ} → Going whole limit free k done s left p [] → 0 < left → {x : Step} → x ≡ scan limit k s p → {m : ℕ} → x ≡ step.Next m → Going whole limit free k done s (left - 1) m []
+pub going-free : {whole : Stepped} {limit : ℕ} {k : Fmt} {s : List ℕ} {left p : ℕ} → Going whole limit free k done s left p [] → 0 < left → {x : Stepped} → x ≡ scan limit k s p → {m : ℕ} → x ≡ Ok m → Going whole limit free k done s (left - 1) m []
 going-free {limit = limit} {k = k} {s = s} {left = left} g h ek {m} ik =
     let n = going_on g h ek ik refl (done-step limit s m) refl refl refl in
     record { is = n.is ∙ forgets limit k done s (left - 1) m _; here = n.here }

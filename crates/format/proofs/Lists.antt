@@ -4,24 +4,25 @@ use mathlib.Core.Path.{◌≡◌, refl, sym, ap, ◌∙◌}
 use mathlib.Core.Bool.{Bool, true, false, ◌||◌, true≢false}
 use mathlib.Core.List.{List, [], ◌∷◌, ◌++◌, map}
 use lib.ListN.{length}
-use Rattle.order.specs.declared.Order.{Order}
-use Rattle.order.specs.declared.Order.TheVariants.{Less, Equal, Greater}
+use Rattle.std.specs.Ordering.{is_eq}
+use Rattle.std.specs.declared.cmp.Ordering.{Ordering}
+use Rattle.std.specs.declared.cmp.Ordering.TheVariants.{Less, Equal, Greater}
 use Rattle.order.specs.Lex.{lex_compare}
 use Rattle.order.proofs.Laws.{lex-equal-iff}
-use Rattle.format.specs.Lists.{is_equal, same, is_in}
+use Rattle.format.specs.Lists.{same, is_in}
 use Rattle.format.specs.Admits.{All}
 
 -- ---- `same` is equality
 pub same_true : (x y : List ℕ) → same x y ≡ true → x ≡ y
 same_true x y e = (lex-equal-iff x y).0 (equal (lex_compare x y) e)
   where
-    equal : (o : Order) → is_equal o ≡ true → o ≡ Equal
+    equal : (o : Ordering) → is_eq o ≡ true → o ≡ Equal
     equal Less h = absurd (true≢false (sym h))
     equal Equal h = refl
     equal Greater h = absurd (true≢false (sym h))
 
 pub same_of : (x y : List ℕ) → x ≡ y → same x y ≡ true
-same_of x y e = ap is_equal ((lex-equal-iff x y).1 e)
+same_of x y e = ap is_eq ((lex-equal-iff x y).1 e)
 
 pub same_refl : (x : List ℕ) → same x x ≡ true
 same_refl x = same_of x x refl

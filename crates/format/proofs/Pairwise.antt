@@ -8,12 +8,13 @@ use mathlib.Core.List.{List, [], ◌∷◌, ◌++◌, append-nil}
 use lib.ListN.{length, get_or}
 use lib.Seq.{append_snoc}
 use borrow.Author.Tests.{not-true}
+use Rattle.std.specs.Ordering.{is_lt}
 use Rattle.text.proofs.Blocks.{both, neither}
-use Rattle.order.specs.declared.Order.{Order}
-use Rattle.order.specs.declared.Order.TheVariants.{Less, Equal, Greater}
+use Rattle.std.specs.declared.cmp.Ordering.{Ordering}
+use Rattle.std.specs.declared.cmp.Ordering.TheVariants.{Less, Equal, Greater}
 use Rattle.order.specs.Lex.{lex_compare}
 use Rattle.order.proofs.Laws.{lex-refl, lex-trans}
-use Rattle.format.specs.Lists.{is_less, before, same, is_in, all_different}
+use Rattle.format.specs.Lists.{before, same, is_in, all_different}
 use Rattle.format.specs.Format.{Rank, Rule, free, distinct, early, late, above}
 use Rattle.format.specs.Admits.{in_order}
 use Rattle.format.specs.Pairwise.{Ascending, Different}
@@ -21,9 +22,9 @@ use Rattle.format.proofs.Lists.{same_true, same_refl}
 
 -- ---- keys that ascend
 pub before-trans : (x y z : List ℕ) → before x y ≡ true → before y z ≡ true → before x z ≡ true
-before-trans x y z p q = ap is_less (lex-trans x y z (less (lex_compare x y) p) (less (lex_compare y z) q))
+before-trans x y z p q = ap is_lt (lex-trans x y z (less (lex_compare x y) p) (less (lex_compare y z) q))
   where
-    less : (o : Order) → is_less o ≡ true → o ≡ Less
+    less : (o : Ordering) → is_lt o ≡ true → o ≡ Less
     less Less e = refl
     less Equal e = absurd (false≢true e)
     less Greater e = absurd (false≢true e)
@@ -75,7 +76,7 @@ module _ (u : Rule) (h : Rises u) where
   ascending-iff (k ∷ ks) = (λ e. ascends k ks (sym (rise-next u h k ks []) ∙ e), λ a. rise-next u h k ks [] ∙ in_order-ascends k ks a)
 
 pub before-apart : (x y : List ℕ) → before x y ≡ true → x ≡ y → ⊥
-before-apart x y h e = false≢true (sym (ap is_less (lex-refl y)) ∙ subst (λ z. before z y ≡ true) e h)
+before-apart x y h e = false≢true (sym (ap is_lt (lex-refl y)) ∙ subst (λ z. before z y ≡ true) e h)
 
 -- keys that ascend differ
 pub ascending-different : (ks : List (List ℕ)) → Ascending ks → Different ks

@@ -2,11 +2,8 @@
 use Prim.Native.Nat.{ℕ}
 use mathlib.Core.Path.{◌≡◌, refl, sym, ap, ◌∙◌}
 use mathlib.Core.List.{List}
-use Rattle.state.specs.Outcome.{got, step_of, field_of, step_of_field}
-use Rattle.state.specs.declared.Step.{Step}
-use Rattle.state.specs.declared.Step.TheVariants as step
-use Rattle.state.specs.declared.Field.{Field}
-use Rattle.state.specs.declared.Field.TheVariants as field
+use Rattle.std.specs.Prelude.{Ok}
+use Rattle.state.specs.Outcome.{got, step_of, field_of, step_of_field, Stepped, NumberRead, refuses}
 use Rattle.state.proofs.Outcome.{value-got, value-refused, onward, step-bind, step_keeps, step-of-field}
 use Rattle.state_wire.proofs.Fields.{tag_below}
 use native.Mathlib.Omega.{arith}
@@ -25,46 +22,46 @@ module _ (limit : ℕ) (s : List ℕ) (at : ℕ) where
 
 -- ---- one format after another
 module _ (limit : ℕ) (s : List ℕ) (at : ℕ) where
-  pub then-on : (a b : Fmt) {x r : Step} {m : ℕ} → x ≡ scan limit a s at → x ≡ step.Next m → r ≡ scan limit b s m → r ≡ scan limit (a then b) s at
+  pub then-on : (a b : Fmt) {x r : Stepped} {m : ℕ} → x ≡ scan limit a s at → x ≡ Ok m → r ≡ scan limit b s m → r ≡ scan limit (a then b) s at
   then-on a b e h i = i ∙ sym (rw (scan-then limit s at a b, ← e, h))
 
-  pub then-stop : (a b : Fmt) {r : Step} {q p : ℕ} → r ≡ scan limit a s at → r ≡ step.Refused q p → r ≡ scan limit (a then b) s at
+  pub then-stop : (a b : Fmt) {r : Stepped} {q p : ℕ} → r ≡ scan limit a s at → r ≡ refuses q p → r ≡ scan limit (a then b) s at
   then-stop a b e h = h ∙ sym (rw (scan-then limit s at a b, ← e, h))
 
   -- ---- a tag, and what it chooses
-  pub tagged-on : (k : ℕ) (f : ℕ → Fmt) {g : Field} {r : Step} {t m : ℕ} (c : ℕ) → g ≡ field_of (read_tag k s at) → g ≡ field.Value t m → t ≡ c → r ≡ scan limit (f c) s m → r ≡ scan limit (tagged k f) s at
-  tagged-on k f {m = m} c e h q i = i ∙ sym (scan-tagged limit s at k f c m (value-got (read_tag k s at) e (h ∙ ap (λ x. field.Value x m) q)))
+  pub tagged-on : (k : ℕ) (f : ℕ → Fmt) {g : NumberRead} {r : Stepped} {t m : ℕ} (c : ℕ) → g ≡ field_of (read_tag k s at) → g ≡ Ok (t, m) → t ≡ c → r ≡ scan limit (f c) s m → r ≡ scan limit (tagged k f) s at
+  tagged-on k f {m = m} c e h q i = i ∙ sym (scan-tagged limit s at k f c m (value-got (read_tag k s at) e (h ∙ ap (λ x. Ok (x, m)) q)))
 
-  pub tagged-stop : (k : ℕ) (f : ℕ → Fmt) {g : Field} {r : Step} {q p : ℕ} → g ≡ field_of (read_tag k s at) → g ≡ field.Refused q p → r ≡ step_of_field g → r ≡ scan limit (tagged k f) s at
+  pub tagged-stop : (k : ℕ) (f : ℕ → Fmt) {g : NumberRead} {r : Stepped} {q p : ℕ} → g ≡ field_of (read_tag k s at) → g ≡ refuses q p → r ≡ step_of_field g → r ≡ scan limit (tagged k f) s at
   unfolding scan read
   tagged-stop k f e h i = i ∙ ap step_of_field h ∙ rw (value-refused (read_tag k s at) e h)
 
-  pub tagged-as : (k : ℕ) (f : ℕ → Fmt) {g : Field} {r : Step} {t m : ℕ} (h : Fmt) → g ≡ field_of (read_tag k s at) → g ≡ field.Value t m → f t ≡ h → r ≡ scan limit h s m → r ≡ scan limit (tagged k f) s at
+  pub tagged-as : (k : ℕ) (f : ℕ → Fmt) {g : NumberRead} {r : Stepped} {t m : ℕ} (h : Fmt) → g ≡ field_of (read_tag k s at) → g ≡ Ok (t, m) → f t ≡ h → r ≡ scan limit h s m → r ≡ scan limit (tagged k f) s at
   tagged-as k f {t = t} {m = m} h e i q j = tagged-on k f t e i refl (j ∙ sym (ap (λ (x : Fmt). scan limit x s m) q))
 
   -- the second of two
-  pub tagged-second : (f : ℕ → Fmt) {g : Field} {r : Step} {t m : ℕ} → g ≡ field_of (read_tag 2 s at) → g ≡ field.Value t m → (t ≡ 0 → ⊥) → r ≡ scan limit (f 1) s m → r ≡ scan limit (tagged 2 f) s at
+  pub tagged-second : (f : ℕ → Fmt) {g : NumberRead} {r : Stepped} {t m : ℕ} → g ≡ field_of (read_tag 2 s at) → g ≡ Ok (t, m) → (t ≡ 0 → ⊥) → r ≡ scan limit (f 1) s m → r ≡ scan limit (tagged 2 f) s at
   tagged-second f {t = t} e h n i = let b = tag_below 2 s at e h in let one : t ≡ 1 = omega (arith, n) in tagged-on 2 f 1 e h one i
 
   -- ---- fields passed over
-  pub done-step : step.Next at ≡ scan limit done s at
+  pub done-step : Ok at ≡ scan limit done s at
   unfolding scan read
   done-step = refl
 
   -- a number, by its bytes alone
-  pub taken_step : (w : ℕ) {r : Step} → r ≡ step_of (read_span w s at) → r ≡ scan limit (number w) s at
+  pub taken_step : (w : ℕ) {r : Stepped} → r ≡ step_of (read_span w s at) → r ≡ scan limit (number w) s at
   unfolding scan read read_number
   taken_step w e = e ∙ sym (step_keeps (read_span w s at) number_of)
 
-  pub number_step : (w : ℕ) {g : Field} {r : Step} → g ≡ field_of (read_number w s at) → r ≡ step_of_field g → r ≡ scan limit (number w) s at
+  pub number_step : (w : ℕ) {g : NumberRead} {r : Stepped} → g ≡ field_of (read_number w s at) → r ≡ step_of_field g → r ≡ scan limit (number w) s at
   unfolding scan read
   number_step w e i = i ∙ ap step_of_field e ∙ step-of-field (read_number w s at)
 
-  pub tag-step : (k : ℕ) {g : Field} {r : Step} → g ≡ field_of (read_tag k s at) → r ≡ step_of_field g → r ≡ scan limit (tag k) s at
+  pub tag-step : (k : ℕ) {g : NumberRead} {r : Stepped} → g ≡ field_of (read_tag k s at) → r ≡ step_of_field g → r ≡ scan limit (tag k) s at
   unfolding scan read
   tag-step k e i = i ∙ ap step_of_field e ∙ step-of-field (read_tag k s at)
 
-  pub text-step : {r : Step} → r ≡ step_of (read_text limit s at) → r ≡ scan limit text s at
+  pub text-step : {r : Stepped} → r ≡ step_of (read_text limit s at) → r ≡ scan limit text s at
   unfolding scan read
   text-step e = e
 

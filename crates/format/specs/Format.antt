@@ -1,8 +1,7 @@
 -- A universe of formats: what the values of a format are, how bytes are read as one, and how one is written.
 use Rattle.std.specs.Prelude.{ℕ, zero, suc, ◌+◌, List, [], ◌∷◌, ◌++◌, Bool, true, length, get_or}
 use Rattle.state.specs.Bytes.{span, bytes_of}
-use Rattle.state.specs.Outcome.{Outcome, got, bind, ask, step_of}
-use Rattle.state.specs.declared.Step.{Step}
+use Rattle.state.specs.Outcome.{Outcome, got, bind, ask, step_of, Stepped}
 use Rattle.state_wire.specs.Fields.{read_number, read_tag, read_count, read_text}
 use Rattle.format.specs.Lists.{before, all_different}
 
@@ -106,10 +105,10 @@ module _ (limit : ℕ) where
   read (list w l u k r) s at = bind (read_count w l s at) (λ n m. entries u (read k) (read r) s n m [])
 
   -- the same with the value forgotten: what code that walks over the bytes answers
-  unfoldable pub scan : Fmt → List ℕ → ℕ → Step
+  unfoldable pub scan : Fmt → List ℕ → ℕ → Stepped
   scan f s at = step_of (read f s at)
 
-  unfoldable pub scan_entries : Rule → (key rest : Fmt) → List ℕ → (n at : ℕ) → List (List ℕ) → Step
+  unfoldable pub scan_entries : Rule → (key rest : Fmt) → List ℕ → (n at : ℕ) → List (List ℕ) → Stepped
   scan_entries u k r s n at ks = step_of (entries u (read k) (read r) s n at ks)
 
 -- ---- writing

@@ -1,14 +1,13 @@
 -- Where the parts of bytes that were read stand.
-use Rattle.std.specs.Prelude.{ℕ, zero, suc, ◌+◌, ◌-◌, min, List, [], ◌∷◌, ◌++◌, cond, length, get_or, leb}
+use Rattle.state.specs.Outcome.{Stepped}
+use Rattle.std.specs.Prelude.{Err, ℕ, zero, suc, ◌+◌, ◌-◌, min, List, [], ◌∷◌, ◌++◌, cond, length, get_or, leb, Ok}
 use Rattle.state.specs.Bytes.{span, number_of}
-use Rattle.state.specs.declared.Step.{Step}
-use Rattle.state.specs.declared.Step.TheVariants as step
 use Rattle.format.specs.Format.{Fmt, done, number, tag, text, tagged, ◌then◌, list, from, scan}
 use Rattle.format.specs.Manifest.{Section, counted, entry, lists, sections, portability}
 
-abbrev pub end_of : Step → ℕ
-end_of (step.Next n) = n
-end_of (step.Refused q p) = p
+abbrev pub end_of : Stepped → ℕ
+end_of (Ok n) = n
+end_of (Err d) = d.at
 
 -- how many entries the list at a position counts
 abbrev pub count_at : List ℕ → ℕ → ℕ

@@ -4,11 +4,12 @@ use native.Mathlib.Omega.{arith}
 use mathlib.Core.Path.{◌≡◌, refl, sym, subst, ◌∙◌}
 use mathlib.Core.Bool.{Bool, true, false, not}
 use mathlib.Core.List.{List}
+use Rattle.std.specs.Ordering.{is_lt}
 use Rattle.order.specs.declared.Order.{Order}
 use Rattle.order.specs.declared.Order.TheVariants.{Less, Equal, Greater}
 use Rattle.order.specs.Lex.{lex_compare}
 use Rattle.order.proofs.Laws.{lex-turned, lex-refl, lex-equal-iff, lex-trans}
-use Rattle.format.specs.Lists.{is_less, before, same}
+use Rattle.format.specs.Lists.{before, same}
 
 pub apart : {A : Type 0} → true ≡ false → A
 apart e = let z : ◌≡◌ {A = ℕ} 0 1 = cc in absurd (omega arith)
@@ -21,7 +22,7 @@ is_false false h = refl
 abbrev pub leq : List ℕ → List ℕ → Bool
 leq x y = not (before y x)
 
-less-is : (o : Order) → not (is_less o) ≡ false → o ≡ Less
+less-is : (o : Order) → not (is_lt o) ≡ false → o ≡ Less
 less-is Less e = refl
 less-is Equal e = apart e
 less-is Greater e = apart e
