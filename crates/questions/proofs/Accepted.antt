@@ -1,6 +1,6 @@
 -- What acceptance tells: of the bytes and the index, of the manifest that was read, and of the questions over the whole.
 use Prim.Native.Nat.{ℕ, ◌≤◌}
-use native.Mathlib.Omega.{arith}
+use mathlib.Core.Bool.{false≢true}
 use mathlib.Core.Path.{◌≡◌, refl, subst}
 use mathlib.Core.List.{List}
 use lib.ListN.{length}
@@ -8,7 +8,7 @@ use lib.Dec.{leb, eqb}
 use borrow.Author.Tests.{leb-true, eqb-true, eq-eqb}
 use Rattle.state.specs.Bytes.{AreBytes}
 use Rattle.state.specs.Outcome.{Outcome, got, refused}
-use Rattle.state.specs.declared.Answer.TheVariants.{Accepted}
+use Rattle.std.specs.Prelude.{IsOk}
 use Rattle.state.proofs.Outcome.{Yields, this, yielded, yields-ask, yields-heed, yields-bind}
 use Rattle.state_wire.specs.Fields.{max_snapshot_bytes}
 use Rattle.format.specs.Format.{El, read, encode}
@@ -57,10 +57,10 @@ module _ (s : List ℕ) (w : ℕ) where
       (c.1, c.2)
 
 -- ---- questions 1 to 32
--- what is answered Accepted was read
-pub decoded-got : (base : ℕ) (s : List ℕ) (o : Outcome (El manifest)) → (decoded_of base s o).answer ≡ Accepted → (m : El manifest) × (n : ℕ) × (o ≡ got m n)
+-- what is accepted was read
+pub decoded-got : (base : ℕ) (s : List ℕ) (o : Outcome (El manifest)) → IsOk (decoded_of base s o) → (m : El manifest) × (n : ℕ) × (o ≡ got m n)
 decoded-got base s (got m n) h = (m, n, refl)
-decoded-got base s (refused q p) h = let z : ◌≡◌ {A = ℕ} 0 1 = cc in absurd (omega arith)
+decoded-got base s (refused q p) h = absurd (false≢true h)
 
 module _ (bound : List (List ℕ)) (revision : ℕ) where
   module _ (s : List ℕ) (w : ℕ) where
@@ -96,8 +96,8 @@ module _ (bound : List (List ℕ)) (revision : ℕ) where
       (groups_none (input_definitions_hold m) _
       (groups_none (boundaries m) _ (groups_none (slots m) _ (groups_none (references m) _ (groups_none (declarations m) _ h).1).1).1).1).0
 
-  -- where `decode_manifest` answers Accepted, there is a manifest
-  pub accepted-got : (s : List ℕ) (base : ℕ) (index : List ℕ) → (decode_manifest bound s base revision index).answer ≡ Accepted
+  -- where `decode_manifest` accepts, there is a manifest
+  pub accepted-got : (s : List ℕ) (base : ℕ) (index : List ℕ) → IsOk (decode_manifest bound s base revision index)
       → (m : El manifest) × (n : ℕ) × (judge bound revision s (length index) ≡ got m n)
   unfolding decode_manifest
   accepted-got s base index e = decoded-got base s (judge bound revision s (length index)) e

@@ -5,8 +5,9 @@ use mathlib.Core.Bool.{cond}
 use mathlib.Core.List.{List, [], ◌∷◌}
 use lib.ListN.{length, replicate}
 use lib.Dec.{ltb, eqb}
-use Rattle.state.specs.declared.Answer.{Answer}
-use Rattle.state.specs.declared.Answer.TheVariants.{Accepted, Refused}
+use Rattle.std.specs.Prelude.{Result, Ok, Err}
+use Rattle.state.specs.Outcome.{refuses}
+use Rattle.state.specs.declared.Refusal.{Refusal}
 use Rattle.format.specs.Reading.{index_words}
 use Rattle.questions.specs.Sets.{gather}
 use Rattle.questions.specs.Portability.{ascii}
@@ -29,26 +30,34 @@ unfoldable pub hex : String → List ℕ
 hex s = pairs (gather digits (ascii s))
 
 -- ---- rows
+-- acceptance, whatever comes with it, or the refusal
+abbrev pub Answered : Type 0
+Answered = Result Unit (Refusal ℕ)
+
+abbrev pub answered : {A : Type 0} → Result A (Refusal ℕ) → Answered
+answered (Ok x) = Ok tt
+answered (Err d) = Err d
+
 pub record Row : Type 0 where
   pub bytes : List ℕ
   pub base : ℕ
   pub revision : ℕ
   pub index : ℕ
-  pub answer : Answer
+  pub answer : Answered
 
 -- with an index that is just long enough
-abbrev pub row_at : (base revision : ℕ) → List ℕ → Answer → Row
+abbrev pub row_at : (base revision : ℕ) → List ℕ → Answered → Row
 row_at base revision s a = record { bytes = s; base = base; revision = revision; index = index_words (length s); answer = a }
 
-abbrev pub row : List ℕ → Answer → Row
+abbrev pub row : List ℕ → Answered → Row
 row = row_at 0 2
 
 -- a manifest that is accepted; one that a question refuses, at its end
 abbrev pub accepted : String → Row
-accepted s = row (hex s) Accepted
+accepted s = row (hex s) (Ok tt)
 
 abbrev pub refused_by : (question : ℕ) → String → Row
-refused_by q s = row (hex s) (Refused q (length (hex s)))
+refused_by q s = row (hex s) (refuses q (length (hex s)))
 
 abbrev pub revision1 : Row → Row
 revision1 r = row_at 0 1 r.bytes r.answer

@@ -4,10 +4,10 @@ use mathlib.Core.Path.{◌≡◌, refl}
 use mathlib.Core.List.{List, [], ◌∷◌, ◌++◌}
 use lib.ListN.{length, replicate}
 use Rattle.state.specs.Bytes.{number_of, bytes_of}
-use Rattle.state.specs.declared.Answer.{Answer}
-use Rattle.state.specs.declared.Answer.TheVariants.{Accepted, Refused}
+use Rattle.std.specs.Prelude.{Result, Ok}
+use Rattle.state.specs.Outcome.{refuses}
+use Rattle.state.specs.declared.Refusal.{Refusal}
 use Rattle.state.specs.declared.Units.{Units}
-use Rattle.state.specs.declared.Units.TheVariants as units
 use Rattle.text.specs.Valid.{valid_up_to}
 use Rattle.order.specs.Lex.{lex_compare}
 use Rattle.state_wire.specs.Fields.{read_span, read_number, read_tag, read_count, bounded_count, read_text}
@@ -28,34 +28,34 @@ use Rattle.questions.specs.Portability.{ascii, target_bound_classes, some_bound,
 use Rattle.questions.specs.Order.{answers, first_failing}
 use Rattle.questions.specs.Answers.{judge, decode_manifest}
 use Rattle.questions.specs.Units.{word_total, units_of, units_answer}
-use Rattle.questions.proofs.Cases.{zeros, digits, pairs, hex, Row, row_at, row, accepted, accepted_rows, declaration_rows, reference_rows, slot_rows, boundary_rows, input_rows, portability_rows}
+use Rattle.questions.proofs.Cases.{Answered, answered, zeros, digits, pairs, hex, Row, row_at, row, accepted, accepted_rows, declaration_rows, reference_rows, slot_rows, boundary_rows, input_rows, portability_rows}
 
 -- ---- "Entries checked"
 -- "P: portable, one authored block with empty key and class, stateful, revision 1, length 1, no lists, scheduled, slot at 0: 105 bytes"
 abbrev entry_rows : List Row
 entry_rows =
-    row [] (Refused 3 0)
-    ∷ row (2 ∷ []) (Refused 6 1)
-    ∷ row (zeros 44) (Refused 3 41)
-    ∷ row (zeros 45) Accepted
-    ∷ row (zeros 46) (Refused 10 45)
-    ∷ row (0 ∷ 1 ∷ zeros 10) (Refused 7 5)
-    ∷ row (0 ∷ 1 ∷ zeros 11) (Refused 3 13)
-    ∷ row (0 ∷ 1 ∷ zeros 51) (Refused 11 53)
-    ∷ row (1 ∷ zeros 52) (Refused 31 53)
-    ∷ row_at 0 1 (1 ∷ zeros 52) (Refused 32 53)
+    row [] (refuses 3 0)
+    ∷ row (2 ∷ []) (refuses 6 1)
+    ∷ row (zeros 44) (refuses 3 41)
+    ∷ row (zeros 45) (Ok tt)
+    ∷ row (zeros 46) (refuses 10 45)
+    ∷ row (0 ∷ 1 ∷ zeros 10) (refuses 7 5)
+    ∷ row (0 ∷ 1 ∷ zeros 11) (refuses 3 13)
+    ∷ row (0 ∷ 1 ∷ zeros 51) (refuses 11 53)
+    ∷ row (1 ∷ zeros 52) (refuses 31 53)
+    ∷ row_at 0 1 (1 ∷ zeros 52) (refuses 32 53)
     -- P, then its slot at 1, then its kind 0
     ∷ accepted "00 . 0100000000..01010000000100000000000000... . . 0100000000. . . 0100000000...0100000000000000 . . ."
-    ∷ row (hex "00 . 0100000000..01010000000100000000000000... . . 0100000000. . . 0100000000.01000000000000000100000000000000 . . .") (Refused 24 105)
-    ∷ row (hex "00 . 0100000000..00010000000100000000000000... . . 0100000000. . . 0100000000...0100000000000000 . . .") (Refused 12 105)
+    ∷ row (hex "00 . 0100000000..01010000000100000000000000... . . 0100000000. . . 0100000000.01000000000000000100000000000000 . . .") (refuses 24 105)
+    ∷ row (hex "00 . 0100000000..00010000000100000000000000... . . 0100000000. . . 0100000000...0100000000000000 . . .") (refuses 12 105)
     -- index words
-    ∷ record { bytes = zeros 45; base = 0; revision = 2; index = 37; answer = Refused 2 0 }
-    ∷ record { bytes = zeros 45; base = 0; revision = 2; index = 38; answer = Accepted }
-    ∷ record { bytes = zeros 45; base = 9; revision = 2; index = 37; answer = Refused 2 0 }
+    ∷ record { bytes = zeros 45; base = 0; revision = 2; index = 37; answer = refuses 2 0 }
+    ∷ record { bytes = zeros 45; base = 0; revision = 2; index = 38; answer = Ok tt }
+    ∷ record { bytes = zeros 45; base = 9; revision = 2; index = 37; answer = refuses 2 0 }
     -- "Offsets are base plus position and stop at 2^64 − 1"
-    ∷ row_at 7 2 (zeros 44) (Refused 3 48)
-    ∷ row_at (2 ^ 64 - 1) 2 (zeros 44) (Refused 3 (2 ^ 64 - 1))
-    ∷ row_at (2 ^ 64 - 10) 2 (1 ∷ zeros 52) (Refused 31 (2 ^ 64 - 1))
+    ∷ row_at 7 2 (zeros 44) (refuses 3 48)
+    ∷ row_at (2 ^ 64 - 1) 2 (zeros 44) (refuses 3 (2 ^ 64 - 1))
+    ∷ row_at (2 ^ 64 - 10) 2 (1 ∷ zeros 52) (refuses 31 (2 ^ 64 - 1))
     ∷ []
 
 -- ---- all of them
@@ -65,25 +65,28 @@ rows = entry_rows ++ accepted_rows ++ declaration_rows ++ reference_rows ++ slot
 -- ---- words and units: "P .. Accepted, 1 word, 4 units"; 39 above 2^64 − 1
 record Figure : Type 0 where
   bytes : List ℕ
-  figure : Units
+  figure : Result Units (Refusal ℕ)
+
+abbrev costs : (words units : ℕ) → Result Units (Refusal ℕ)
+costs w u = Ok (record { words = w; units = u })
 
 abbrev figures : List Figure
 figures =
-    record { bytes = zeros 45; figure = units.Of 0 0 }
-    ∷ record { bytes = hex "00 . 0100000000..01010000000100000000000000... . . 0100000000. . . 0100000000...0100000000000000 . . ."; figure = units.Of 1 4 }
+    record { bytes = zeros 45; figure = costs 0 0 }
+    ∷ record { bytes = hex "00 . 0100000000..01010000000100000000000000... . . 0100000000. . . 0100000000...0100000000000000 . . ."; figure = costs 1 4 }
     -- P with 2^62 − 1 words, with 2^62 words, and cut short
-    ∷ record { bytes = hex "00 . 0100000000..0101000000ffffffffffffff3f... . . 0100000000. . . 0100000000...ffffffffffffff3f . . ."; figure = units.Of (2 ^ 62 - 1) (2 ^ 64 - 4) }
-    ∷ record { bytes = hex "00 . 0100000000..01010000000000000000000040... . . 0100000000. . . 0100000000...0000000000000040 . . ."; figure = units.Refused 39 0 }
-    ∷ record { bytes = zeros 44; figure = units.Refused 3 41 }
+    ∷ record { bytes = hex "00 . 0100000000..0101000000ffffffffffffff3f... . . 0100000000. . . 0100000000...ffffffffffffff3f . . ."; figure = costs (2 ^ 62 - 1) (2 ^ 64 - 4) }
+    ∷ record { bytes = hex "00 . 0100000000..01010000000000000000000040... . . 0100000000. . . 0100000000...0000000000000040 . . ."; figure = refuses 39 0 }
+    ∷ record { bytes = zeros 44; figure = refuses 3 41 }
     ∷ []
 
 -- what a call for units answers
-abbrev figure_of : Figure → Units
+abbrev figure_of : Figure → Result Units (Refusal ℕ)
 figure_of f = units_answer 0 (judge target_bound_classes 2 f.bytes (index_words (length f.bytes)))
 
 -- what a call answers
-abbrev answer_to : Row → Answer
-answer_to r = (decode_manifest target_bound_classes r.bytes r.base r.revision (replicate r.index 0)).answer
+abbrev answer_to : Row → Answered
+answer_to r = answered (decode_manifest target_bound_classes r.bytes r.base r.revision (replicate r.index 0))
 
 -- to unfold this is to unfold all that an answer is computed by
 unfoldable pub opened : Unit {0}

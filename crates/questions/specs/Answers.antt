@@ -1,9 +1,8 @@
 -- The whole answer of a call on a manifest, and what it leaves of the lent index.
-use Rattle.std.specs.Prelude.{ℕ, ◌-◌, List, ◌++◌, cond, length, replicate, leb, eqb}
-use Rattle.state.specs.Outcome.{Outcome, got, refused, bind, heed, offset_of}
-use Rattle.state.specs.declared.Answer.TheVariants as answer
+use Rattle.std.specs.Prelude.{Result, Ok, ℕ, ◌-◌, List, ◌++◌, cond, length, replicate, leb, eqb}
+use Rattle.state.specs.Outcome.{Outcome, got, refused, bind, heed, offset_of, refuses}
 use Rattle.state.specs.declared.Starts.{Starts}
-use Rattle.state.specs.declared.Decoded.{Decoded}
+use Rattle.state.specs.declared.Refusal.{Refusal}
 use Rattle.state_wire.specs.Fields.{max_snapshot_bytes}
 use Rattle.format.specs.Format.{El}
 use Rattle.format.specs.Manifest.{manifest}
@@ -23,16 +22,13 @@ offset_at base q p = cond (leb q 2) 0 (offset_of base p)
 abbrev pub starts_of : List ℕ → Starts
 starts_of ps = record { at = ps }
 
--- a refusal; acceptance with the starts
-abbrev pub refusal : (base question position : ℕ) → Decoded
-refusal base q p = record { answer = answer.Refused q (offset_at base q p); starts = starts_of (replicate 12 0) }
-
-abbrev pub acceptance : (starts : List ℕ) → Decoded
-acceptance ps = record { answer = answer.Accepted; starts = starts_of ps }
+-- "A refusal is number and offset"; acceptance gives the starts
+abbrev pub Decoded : Type 0
+Decoded = Result Starts (Refusal ℕ)
 
 abbrev pub decoded_of : (base : ℕ) → List ℕ → Outcome (El manifest) → Decoded
-decoded_of base s (got m n) = acceptance (manifest_starts max_snapshot_bytes s)
-decoded_of base s (refused q p) = refusal base q p
+decoded_of base s (got m n) = Ok (starts_of (manifest_starts max_snapshot_bytes s))
+decoded_of base s (refused q p) = refuses q (offset_at base q p)
 
 -- "After acceptance the twelve section starts come back .. in its first twelve words ..; all other words are 0. After refusal 2 it is
 -- untouched; after any other refusal it is all 0"
