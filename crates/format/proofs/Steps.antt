@@ -2,8 +2,9 @@
 use Prim.Native.Nat.{ℕ}
 use mathlib.Core.Path.{◌≡◌, refl, sym, ap, ◌∙◌}
 use mathlib.Core.List.{List}
-use Rattle.std.specs.Prelude.{Ok}
-use Rattle.state.specs.Outcome.{got, step_of, field_of, step_of_field, Stepped, NumberRead, refuses}
+use Rattle.state.specs.declared.Refusal.{Refusal}
+use Rattle.std.specs.Prelude.{Err, Ok}
+use Rattle.state.specs.Outcome.{got, step_of, field_of, step_of_field, Stepped, NumberRead}
 use Rattle.state.proofs.Outcome.{value-got, value-refused, onward, step-bind, step_keeps, step-of-field}
 use Rattle.state_wire.proofs.Fields.{tag_below}
 use native.Mathlib.Omega.{arith}
@@ -25,14 +26,14 @@ module _ (limit : ℕ) (s : List ℕ) (at : ℕ) where
   pub then-on : (a b : Fmt) {x r : Stepped} {m : ℕ} → x ≡ scan limit a s at → x ≡ Ok m → r ≡ scan limit b s m → r ≡ scan limit (a then b) s at
   then-on a b e h i = i ∙ sym (rw (scan-then limit s at a b, ← e, h))
 
-  pub then-stop : (a b : Fmt) {r : Stepped} {q p : ℕ} → r ≡ scan limit a s at → r ≡ refuses q p → r ≡ scan limit (a then b) s at
+  pub then-stop : (a b : Fmt) {r : Stepped} {d : Refusal ℕ} → r ≡ scan limit a s at → r ≡ Err d → r ≡ scan limit (a then b) s at
   then-stop a b e h = h ∙ sym (rw (scan-then limit s at a b, ← e, h))
 
   -- ---- a tag, and what it chooses
   pub tagged-on : (k : ℕ) (f : ℕ → Fmt) {g : NumberRead} {r : Stepped} {t m : ℕ} (c : ℕ) → g ≡ field_of (read_tag k s at) → g ≡ Ok (t, m) → t ≡ c → r ≡ scan limit (f c) s m → r ≡ scan limit (tagged k f) s at
   tagged-on k f {m = m} c e h q i = i ∙ sym (scan-tagged limit s at k f c m (value-got (read_tag k s at) e (h ∙ ap (λ x. Ok (x, m)) q)))
 
-  pub tagged-stop : (k : ℕ) (f : ℕ → Fmt) {g : NumberRead} {r : Stepped} {q p : ℕ} → g ≡ field_of (read_tag k s at) → g ≡ refuses q p → r ≡ step_of_field g → r ≡ scan limit (tagged k f) s at
+  pub tagged-stop : (k : ℕ) (f : ℕ → Fmt) {g : NumberRead} {r : Stepped} {d : Refusal ℕ} → g ≡ field_of (read_tag k s at) → g ≡ Err d → r ≡ step_of_field g → r ≡ scan limit (tagged k f) s at
   unfolding scan read
   tagged-stop k f e h i = i ∙ ap step_of_field h ∙ rw (value-refused (read_tag k s at) e h)
 

@@ -34,6 +34,9 @@ hex s = pairs (gather digits (ascii s))
 abbrev pub Answered : Type 0
 Answered = Result Unit (Refusal ℕ)
 
+abbrev pub accepts : Answered
+accepts = Ok tt
+
 abbrev pub answered : {A : Type 0} → Result A (Refusal ℕ) → Answered
 answered (Ok x) = Ok tt
 answered (Err d) = Err d
@@ -54,7 +57,7 @@ row = row_at 0 2
 
 -- a manifest that is accepted; one that a question refuses, at its end
 abbrev pub accepted : String → Row
-accepted s = row (hex s) (Ok tt)
+accepted s = row (hex s) accepts
 
 abbrev pub refused_by : (question : ℕ) → String → Row
 refused_by q s = row (hex s) (refuses q (length (hex s)))

@@ -28,7 +28,7 @@ use Rattle.questions.specs.Portability.{ascii, target_bound_classes, some_bound,
 use Rattle.questions.specs.Order.{answers, first_failing}
 use Rattle.questions.specs.Answers.{judge, decode_manifest}
 use Rattle.questions.specs.Units.{word_total, units_of, units_answer}
-use Rattle.questions.proofs.Cases.{Answered, answered, zeros, digits, pairs, hex, Row, row_at, row, accepted, accepted_rows, declaration_rows, reference_rows, slot_rows, boundary_rows, input_rows, portability_rows}
+use Rattle.questions.proofs.Cases.{Answered, accepts, answered, zeros, digits, pairs, hex, Row, row_at, row, accepted, accepted_rows, declaration_rows, reference_rows, slot_rows, boundary_rows, input_rows, portability_rows}
 
 -- ---- "Entries checked"
 -- "P: portable, one authored block with empty key and class, stateful, revision 1, length 1, no lists, scheduled, slot at 0: 105 bytes"
@@ -37,7 +37,7 @@ entry_rows =
     row [] (refuses 3 0)
     ∷ row (2 ∷ []) (refuses 6 1)
     ∷ row (zeros 44) (refuses 3 41)
-    ∷ row (zeros 45) (Ok tt)
+    ∷ row (zeros 45) accepts
     ∷ row (zeros 46) (refuses 10 45)
     ∷ row (0 ∷ 1 ∷ zeros 10) (refuses 7 5)
     ∷ row (0 ∷ 1 ∷ zeros 11) (refuses 3 13)
@@ -50,7 +50,7 @@ entry_rows =
     ∷ row (hex "00 . 0100000000..00010000000100000000000000... . . 0100000000. . . 0100000000...0100000000000000 . . .") (refuses 12 105)
     -- index words
     ∷ record { bytes = zeros 45; base = 0; revision = 2; index = 37; answer = refuses 2 0 }
-    ∷ record { bytes = zeros 45; base = 0; revision = 2; index = 38; answer = Ok tt }
+    ∷ record { bytes = zeros 45; base = 0; revision = 2; index = 38; answer = accepts }
     ∷ record { bytes = zeros 45; base = 9; revision = 2; index = 37; answer = refuses 2 0 }
     -- "Offsets are base plus position and stop at 2^64 − 1"
     ∷ row_at 7 2 (zeros 44) (refuses 3 48)

@@ -53,7 +53,7 @@ field_of (got v n) = Ok (v, n)
 field_of (refused q p) = refuses q p
 
 -- a number's reading with the number forgotten
-abbrev pub step_of_field : NumberRead → Stepped
+abbrev pub step_of_field : {N : Type 0} → Result (N × ℕ) (Refusal ℕ) → Stepped
 step_of_field (Ok f) = Ok f.1
 step_of_field (Err e) = Err e
 

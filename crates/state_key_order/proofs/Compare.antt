@@ -7,7 +7,7 @@ use Rattle.state.specs.Bytes.{AreBytes}
 use Rattle.state.specs.Outcome.{Outcome, step_of}
 use Rattle.state.proofs.Outcome.{Yields, this, nothing}
 use Rattle.state_wire.specs.Fields.{max_snapshot_bytes}
-use Rattle.order.specs.declared.Order.{Order}
+use Rattle.std.specs.declared.cmp.Ordering.{Ordering}
 use Rattle.order.specs.Lex.{lex_compare}
 use Rattle.format.specs.Format.{Fmt, done, number, text, ◌then◌, El, read, encode, scan}
 use Rattle.format.specs.Admits.{Holds}
@@ -17,7 +17,7 @@ use Rattle.state_key_order.specs.KeyOrder.{block_key_cmp, connector_key_cmp}
 use Rattle.state_key_order.specs.Compare.{compared_by, block_keys_compared, connector_keys_compared, spans_compared}
 use Rattle.state_key_order.proofs.KeyOrder.{block-key-order, connector-key-order}
 
-module _ (limit : ℕ) (f : Fmt) (cmp : El f → El f → Order)
+module _ (limit : ℕ) (f : Fmt) (cmp : El f → El f → Ordering)
     (order : (k l : El f) → Holds limit f k → Holds limit f l → cmp k l ≡ lex_compare (encode f k) (encode f l))
     (s : List ℕ) (a : ℕ) (t : List ℕ) (b : ℕ) where
   as_read : {o p : Outcome (El f)} → Yields (λ v m. Stands s a m (encode f v) (Holds limit f v)) o → Yields (λ v m. Stands t b m (encode f v) (Holds limit f v)) p

@@ -3,12 +3,12 @@ use Prim.Native.Nat.{ℕ}
 use mathlib.Core.Path.{◌≡◌, refl}
 use mathlib.Core.List.{List, [], ◌∷◌, map}
 use lib.ListN.{length}
+use Rattle.std.specs.Prelude.{Ok}
+use Rattle.state.specs.Outcome.{Stepped, refuses}
 use Rattle.state.specs.Bytes.{number_of, bytes_of}
-use Rattle.state.specs.declared.Step.{Step}
-use Rattle.state.specs.declared.Step.TheVariants.{Next, Refused}
 use Rattle.text.specs.Valid.{valid_up_to}
 use Rattle.state_wire.specs.Fields.{read_span, read_number, read_tag, read_text, max_snapshot_bytes}
-use Rattle.order.specs.declared.Order.TheVariants.{Less, Equal}
+use Rattle.std.specs.declared.cmp.Ordering.TheVariants.{Less, Equal}
 use Rattle.order.specs.Lex.{lex_compare}
 use Rattle.order.proofs.Laws.{lex-refl}
 use Rattle.format.specs.Format.{Fmt, El, read, scan}
@@ -33,19 +33,19 @@ unfolding connector_key_cmp block_key_cmp bytes_of lex_compare
 port-256-before-1 k l o d p q = rw (o, lex-refl (key_tag (owner l) ∷ []), strings-refl (key_strings (owner l)), d, lex-refl (direction l ∷ []), p, q)
 
 -- keys at the start of bytes, and what reading them comes to
-abbrev keys : List (Fmt × List ℕ × Step)
+abbrev keys : List (Fmt × List ℕ × Stepped)
 keys =
-    (block_key, [], Refused 3 0)
-    ∷ (block_key, 2 ∷ [], Refused 6 1)
-    ∷ (block_key, 0 ∷ 1 ∷ 0 ∷ 0 ∷ [], Refused 3 1)
-    ∷ (block_key, 0 ∷ 1 ∷ 0 ∷ 0 ∷ 4 ∷ 97 ∷ [], Refused 4 1)  -- length 67,108,865
-    ∷ (block_key, 0 ∷ 0 ∷ 0 ∷ 0 ∷ 4 ∷ 97 ∷ [], Refused 3 5)  -- and 67,108,864
-    ∷ (block_key, 0 ∷ 2 ∷ 0 ∷ 0 ∷ 0 ∷ 97 ∷ 128 ∷ [], Refused 5 6)
-    ∷ (block_key, 0 ∷ 2 ∷ 0 ∷ 0 ∷ 0 ∷ 195 ∷ 164 ∷ 98 ∷ [], Next 7)
-    ∷ (block_key, 1 ∷ 0 ∷ 0 ∷ 0 ∷ 0 ∷ 1 ∷ 0 ∷ 0 ∷ 0 ∷ 98 ∷ [], Next 10)
-    ∷ (connector_key, 0 ∷ 0 ∷ 0 ∷ 0 ∷ 0 ∷ 2 ∷ 0 ∷ 1 ∷ 0 ∷ 0 ∷ [], Refused 6 6)
-    ∷ (connector_key, 0 ∷ 0 ∷ 0 ∷ 0 ∷ 0 ∷ 1 ∷ 0 ∷ 1 ∷ 0 ∷ [], Refused 3 6)
-    ∷ (connector_key, 0 ∷ 0 ∷ 0 ∷ 0 ∷ 0 ∷ 1 ∷ 0 ∷ 1 ∷ 0 ∷ 0 ∷ [], Next 10)
+    (block_key, [], refuses 3 0)
+    ∷ (block_key, 2 ∷ [], refuses 6 1)
+    ∷ (block_key, 0 ∷ 1 ∷ 0 ∷ 0 ∷ [], refuses 3 1)
+    ∷ (block_key, 0 ∷ 1 ∷ 0 ∷ 0 ∷ 4 ∷ 97 ∷ [], refuses 4 1)  -- length 67,108,865
+    ∷ (block_key, 0 ∷ 0 ∷ 0 ∷ 0 ∷ 4 ∷ 97 ∷ [], refuses 3 5)  -- and 67,108,864
+    ∷ (block_key, 0 ∷ 2 ∷ 0 ∷ 0 ∷ 0 ∷ 97 ∷ 128 ∷ [], refuses 5 6)
+    ∷ (block_key, 0 ∷ 2 ∷ 0 ∷ 0 ∷ 0 ∷ 195 ∷ 164 ∷ 98 ∷ [], Ok 7)
+    ∷ (block_key, 1 ∷ 0 ∷ 0 ∷ 0 ∷ 0 ∷ 1 ∷ 0 ∷ 0 ∷ 0 ∷ 98 ∷ [], Ok 10)
+    ∷ (connector_key, 0 ∷ 0 ∷ 0 ∷ 0 ∷ 0 ∷ 2 ∷ 0 ∷ 1 ∷ 0 ∷ 0 ∷ [], refuses 6 6)
+    ∷ (connector_key, 0 ∷ 0 ∷ 0 ∷ 0 ∷ 0 ∷ 1 ∷ 0 ∷ 1 ∷ 0 ∷ [], refuses 3 6)
+    ∷ (connector_key, 0 ∷ 0 ∷ 0 ∷ 0 ∷ 0 ∷ 1 ∷ 0 ∷ 1 ∷ 0 ∷ 0 ∷ [], Ok 10)
     ∷ []
 
 keys-so : map (λ row. scan max_snapshot_bytes row.0 row.1 0) keys ≡ map (λ row. row.2) keys

@@ -6,8 +6,8 @@ use mathlib.Core.List.{List, [], ◌∷◌, ◌++◌, append_assoc, append-nil}
 use lib.ListN.{length}
 use Rattle.state.specs.Bytes.{number_of, bytes_of}
 use Rattle.state.proofs.Bytes.{bytes-length, bytes-number}
-use Rattle.order.specs.declared.Order.{Order}
-use Rattle.order.specs.declared.Order.TheVariants.{Less, Equal, Greater}
+use Rattle.std.specs.declared.cmp.Ordering.{Ordering}
+use Rattle.std.specs.declared.cmp.Ordering.TheVariants.{Less, Equal, Greater}
 use Rattle.order.specs.Lex.{lex_compare, then_with}
 use Rattle.order.proofs.Laws.{lex-append, lex-equal-iff}
 use Rattle.format.specs.Format.{text, El, encode}
@@ -15,18 +15,18 @@ use Rattle.format.specs.Admits.{Holds}
 use Rattle.format.specs.Keys.{block_key, connector_key, key_tag, key_strings, owner, direction, port_index}
 use Rattle.state_key_order.specs.KeyOrder.{wire_string_cmp, wire_strings_cmp, block_key_cmp, connector_key_cmp}
 
-then-assoc : (o p q : Order) → then_with (then_with o p) q ≡ then_with o (then_with p q)
+then-assoc : (o p q : Ordering) → then_with (then_with o p) q ≡ then_with o (then_with p q)
 then-assoc Less p q = refl
 then-assoc Equal p q = refl
 then-assoc Greater p q = refl
 
-then_equal : (o : Order) → then_with o Equal ≡ o
+then_equal : (o : Ordering) → then_with o Equal ≡ o
 then_equal Less = refl
 then_equal Equal = refl
 then_equal Greater = refl
 
 -- what comes second matters only where the first finds no difference
-then-under : {p q : Order} (o : Order) → (o ≡ Equal → p ≡ q) → then_with o p ≡ then_with o q
+then-under : {p q : Ordering} (o : Ordering) → (o ≡ Equal → p ≡ q) → then_with o p ≡ then_with o q
 then-under Less h = refl
 then-under Equal h = h refl
 then-under Greater h = refl

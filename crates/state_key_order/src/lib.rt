@@ -3,40 +3,30 @@
 
 ghost use Rattle.std.specs.Prelude.{◌≡◌};
 ghost use Rattle.format.specs.Format.{scan};
-ghost use Rattle.format.specs.Lists.{is_less, before, same};
+ghost use Rattle.format.specs.Lists.{before, same};
 ghost use Rattle.state_wire.specs.Fields.{max_snapshot_bytes};
 ghost use Rattle.format.specs.Keys.{block_key, connector_key};
 ghost use Rattle.state_key_order.specs.Compare.{block_keys_compared, connector_keys_compared, spans_compared};
 
-use order::Order;
-use state::{BlockKey, Field, Step, WireDir};
+use order::Compared;
+use state::{BlockKey, Refusal, Step, WireDir};
 use state_wire::{part, read_tag, read_u32, step_of, string};
 
-// The order of two keys and how many of their bytes agree; or the first key that is no whole one, with question and position.
-#[derive(Clone, Copy)]
-pub enum KeysCompared {
-    Compared(Order, usize),
-    LeftRefused(u8, usize),
-    RightRefused(u8, usize),
+// Which of two keys is no whole one, with question and position.
+#[derive(Clone, Copy, PartialEq, Eq)]
+pub enum KeyRefused {
+    Left(Refusal<usize>),
+    Right(Refusal<usize>),
 }
 
-fn is_less(order: Order) -> bool
-    ensures { result ≡ is_less order }
-{
-    match order {
-        Order::Less => true,
-        Order::Equal => false,
-        Order::Greater => false,
-    }
-}
+// The order of two keys and how many of their bytes agree.
+pub type KeysCompared = Result<Compared, KeyRefused>;
 
 // Whether a byte string comes before another.
 pub fn precedes(left: &[u8], right: &[u8]) -> bool
     ensures { result ≡ before left.now right.now }
 {
-    let c = order::compare(left, right);
-    let order = c.order;
-    is_less(order)
+    order::compare(left, right).order.is_lt()
 }
 
 // Whether two byte strings are the same.
@@ -51,14 +41,15 @@ pub fn read_block_key(s: &[u8], at: usize) -> Step
     ensures { result ≡ scan max_snapshot_bytes block_key s.now at }
 {
     let tag = read_tag(s, at, BlockKey::KNOWN);
-    let Field::Value(t, first) = tag else {
+    let Ok((t, first)) = tag else {
         return step_of(tag);
     };
     let name = string(s, first);
-    if t == BlockKey::AUTHORED as u64 {
+    let authored = t == BlockKey::AUTHORED;
+    if authored {
         return name;
     }
-    let Step::Next(second) = name else {
+    let Ok(second) = name else {
         return name;
     };
     string(s, second)
@@ -69,11 +60,11 @@ pub fn read_connector_key(s: &[u8], at: usize) -> Step
     ensures { result ≡ scan max_snapshot_bytes connector_key s.now at }
 {
     let owner = read_block_key(s, at);
-    let Step::Next(m) = owner else {
+    let Ok(m) = owner else {
         return owner;
     };
     let direction = step_of(read_tag(s, m, WireDir::KNOWN));
-    let Step::Next(n) = direction else {
+    let Ok(n) = direction else {
         return direction;
     };
     step_of(read_u32(s, n))
@@ -90,17 +81,9 @@ fn compare_walked(
 ) -> KeysCompared
     ensures { result ≡ spans_compared left.now at l right.now from r }
 {
-    match l {
-        Step::Refused(question, position) => KeysCompared::LeftRefused(question, position),
-        Step::Next(e) => match r {
-            Step::Refused(question, position) => KeysCompared::RightRefused(question, position),
-            Step::Next(f) => {
-                let c = order::compare(part(left, at, e), part(right, from, f));
-                let order = c.order;
-                KeysCompared::Compared(order, c.agree)
-            }
-        },
-    }
+    let e = l.map_err(KeyRefused::Left)?;
+    let f = r.map_err(KeyRefused::Right)?;
+    Ok(order::compare(part(left, at, e), part(right, from, f)))
 }
 
 // The block keys at two positions of lent bytes.

@@ -4,14 +4,14 @@ use native.Mathlib.Omega.{arith}
 use mathlib.Core.Path.{◌≡◌, refl, sym, ap, ◌∙◌}
 use mathlib.Core.Bool.{Bool, true, false}
 use mathlib.Core.List.{List, []}
-use lib.ListN.{length}
+use lib.ListN.{length, get_or}
 use lib.Dec.{ltb, leb, eqb}
 use borrow.Author.Tests.{leb-true, leb-false, ltb-true, le-leb, lt-leb, lt-ltb, le-ltb, eq-eqb, ne_eqb}
 use Rattle.state.specs.Bytes.{span, number_of}
 use Rattle.state.specs.Outcome.{got, refused, refuses, Stepped, NumberRead, step_of, field_of, step_of_field}
 use Rattle.std.specs.Prelude.{Ok, Err}
 use Rattle.state.specs.declared.Refusal.{Refusal}
-use Rattle.state.proofs.Bytes.{span-length}
+use Rattle.state.proofs.Bytes.{span-length, number-one}
 use Rattle.state.proofs.Outcome.{value-got, value-refused, step-refused, step-yields, value-yields, Yields, this, yields-ask, yields-bind}
 use Rattle.text.specs.Valid.{valid_up_to}
 use Rattle.text.proofs.Steps.{valid-within}
@@ -78,6 +78,22 @@ module _ (known : ℕ) (s : List ℕ) (at : ℕ) {f : NumberRead} (e : f ≡ fie
     pub tag-unknown : known ≤ t → refuses 6 m ≡ field_of (read_tag known s at)
     unfolding read_tag
     tag-unknown l = rw (value-got (read_number 1 s at) e h, le-ltb t known l)
+
+-- by the byte itself
+module _ (known : ℕ) (s : List ℕ) (at : ℕ) where
+  byte : at + 1 ≤ length s → Ok (get_or s at 0, at + 1) ≡ field_of (read_number 1 s at)
+  unfolding read_number
+  byte h = rw (span-got 1 s at h, number-one s at h)
+
+  pub byte-missing : length s < at + 1 → refuses 3 at ≡ field_of (read_tag known s at)
+  unfolding read_tag read_number
+  byte-missing h = rw (span-short 1 s at h)
+
+  pub byte-known : at + 1 ≤ length s → get_or s at 0 < known → Ok (get_or s at 0, at + 1) ≡ field_of (read_tag known s at)
+  byte-known h l = tag-known known s at (byte h) refl l
+
+  pub byte-unknown : at + 1 ≤ length s → known ≤ get_or s at 0 → refuses 6 (at + 1) ≡ field_of (read_tag known s at)
+  byte-unknown h l = tag-unknown known s at (byte h) refl l
 
 pub tag_below : (known : ℕ) (s : List ℕ) (at : ℕ) {f : NumberRead} {t m : ℕ} → f ≡ field_of (read_tag known s at) → f ≡ Ok (t, m) → t < known
 unfolding read_tag

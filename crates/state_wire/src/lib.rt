@@ -98,15 +98,19 @@ pub fn read_u64(s: &[u8], at: usize) -> Field
 }
 
 // A tag: a byte below `known`.
-pub fn read_tag(s: &[u8], at: usize, known: u8) -> Field
+pub fn read_tag(s: &[u8], at: usize, known: u8) -> Result<(u8, usize), Refusal<usize>>
     ensures { result ≡ field_of (read_tag known s.now at) }
 {
-    let tag = read_u8(s, at);
-    let Ok((t, next)) = tag else {
-        return tag;
-    };
-    if t < u64::from(known) {
-        Ok((t, next))
+    if remaining(s, at) == 0 {
+        return Err(Refusal {
+            question: Question(3),
+            at,
+        });
+    }
+    let tag = s[at];
+    let next = at + 1;
+    if tag < known {
+        Ok((tag, next))
     } else {
         Err(Refusal {
             question: Question(6),
@@ -130,7 +134,7 @@ pub fn bounded_count(s: &[u8], next: usize, count: u64, least: u64) -> Field
 }
 
 // Where a number was read to, its refusal passed on.
-pub fn step_of(f: Field) -> Step
+pub fn step_of<N: Drop>(f: Result<(N, usize), Refusal<usize>>) -> Step
     ensures { result ≡ step_of_field f }
 {
     f.map(|(_, next)| next)

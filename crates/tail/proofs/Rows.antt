@@ -3,14 +3,13 @@ use Prim.Native.Nat.{ℕ, ◌-◌, ◌^◌}
 use mathlib.Core.Path.{◌≡◌, refl}
 use mathlib.Core.List.{List, [], ◌∷◌, ◌++◌}
 use lib.ListN.{replicate}
-use Rattle.state.specs.declared.Answer.{Answer}
-use Rattle.state.specs.declared.Answer.TheVariants.{Accepted, Refused}
+use Rattle.state.specs.Outcome.{refuses}
 use Rattle.format.specs.Format.{scan}
 use Rattle.format.specs.Admits.{All}
 use Rattle.format.specs.Places.{section_starts, manifest_starts}
 use Rattle.format.proofs.Lists.{alike-each}
 use Rattle.questions.specs.Portability.{target_bound_classes}
-use Rattle.questions.proofs.Cases.{zeros, hex}
+use Rattle.questions.proofs.Cases.{Answered, accepts, answered, zeros, hex}
 use Rattle.questions.proofs.Rows.{opened}
 use Rattle.tail.specs.Tail.{words, flags, value_key, value_of, type_is, value_answer, values_answer, read_words, read_flags, read_tail}
 use Rattle.tail.specs.Answers.{judge_snapshot, decode_snapshot, snapshot_index}
@@ -27,18 +26,18 @@ one_word = zeros 4 ++ (1 ∷ zeros 19)
 abbrev entry_rows : List Row
 entry_rows =
     -- "P with tail of no values, word count 1, one word, flags 0 (24 bytes): accepted"
-    row_at 0 2 P one_word Accepted
+    row_at 0 2 P one_word accepts
     -- "Word count 0, no word (16 bytes): 37 at 109"
-    ∷ row_at 0 2 P (zeros 16) (Refused 37 109)
+    ∷ row_at 0 2 P (zeros 16) (refuses 37 109)
     -- "Its base is the manifest's base plus the manifest's length"; offsets stop at 2^64 − 1
-    ∷ row_at 7 2 P (zeros 16) (Refused 37 116)
-    ∷ row_at (2 ^ 64 - 110) 2 P [] (Refused 3 (2 ^ 64 - 5))
-    ∷ row_at (2 ^ 64 - 50) 2 P (zeros 16) (Refused 37 (2 ^ 64 - 1))
-    ∷ row_at (2 ^ 64 - 1) 2 P (zeros 16) (Refused 37 (2 ^ 64 - 1))
-    ∷ row_at (2 ^ 64 - 1) 2 P one_word Accepted
+    ∷ row_at 7 2 P (zeros 16) (refuses 37 116)
+    ∷ row_at (2 ^ 64 - 110) 2 P [] (refuses 3 (2 ^ 64 - 5))
+    ∷ row_at (2 ^ 64 - 50) 2 P (zeros 16) (refuses 37 (2 ^ 64 - 1))
+    ∷ row_at (2 ^ 64 - 1) 2 P (zeros 16) (refuses 37 (2 ^ 64 - 1))
+    ∷ row_at (2 ^ 64 - 1) 2 P one_word accepts
     -- index words: "n is the manifest's length"
-    ∷ record { manifest = P; tail = one_word; base = 7; revision = 2; index = 67; answer = Refused 2 0 }
-    ∷ record { manifest = P; tail = one_word; base = 7; revision = 2; index = 68; answer = Accepted }
+    ∷ record { manifest = P; tail = one_word; base = 7; revision = 2; index = 67; answer = refuses 2 0 }
+    ∷ record { manifest = P; tail = one_word; base = 7; revision = 2; index = 68; answer = accepts }
     ∷ []
 
 -- ---- all of them
@@ -46,8 +45,8 @@ abbrev rows : List Row
 rows = entry_rows ++ accepted_rows ++ value_rows ++ word_rows ++ field_rows ++ manifest_rows
 
 -- what a call answers
-abbrev answer_to : Row → Answer
-answer_to r = (decode_snapshot target_bound_classes r.manifest r.tail r.base r.revision (replicate r.index 0)).answer
+abbrev answer_to : Row → Answered
+answer_to r = answered (decode_snapshot target_bound_classes r.manifest r.tail r.base r.revision (replicate r.index 0))
 
 -- to unfold this is to unfold all that an answer and an index are computed by
 unfoldable computed : Unit {0}

@@ -8,7 +8,7 @@ use lib.ListN.{length}
 use lib.Dec.{leb, eqb}
 use borrow.Author.Tests.{eqb-true}
 use Rattle.state.specs.Outcome.{Outcome, got, refused, heed}
-use Rattle.state.specs.declared.Answer.TheVariants.{Accepted}
+use Rattle.std.specs.Prelude.{IsOk}
 use Rattle.state.proofs.Outcome.{Yields, this, nothing, yielded, yields-so, yields-ask, yields-heed, yields-bind}
 use Rattle.state_wire.specs.Fields.{max_snapshot_bytes}
 use Rattle.format.specs.Format.{El, read}
@@ -150,9 +150,9 @@ snapshot-tells bound revision s t w e = yielded (subst (Yields Told) e
     Told : El manifest → ℕ → Type 0
     Told m n = (judge bound revision s w ≡ got m (length s)) × TailRead m t (length t) × (n ≡ length s + length t)
 
--- where `decode_snapshot` answers Accepted, there is a manifest
+-- where `decode_snapshot` accepts, there is a manifest
 pub snapshot-got : (bound : List (List ℕ)) (revision : ℕ) (s t : List ℕ) (base : ℕ) (index : List ℕ)
-    → (decode_snapshot bound s t base revision index).answer ≡ Accepted
+    → IsOk (decode_snapshot bound s t base revision index)
     → (m : El manifest) × (n : ℕ) × (judge_snapshot bound revision s t (length index) ≡ got m n)
 unfolding decode_snapshot
 snapshot-got bound revision s t base index e = decoded-got base s (judge_snapshot bound revision s t (length index)) e

@@ -1,11 +1,10 @@
 -- The whole answer of a call on a manifest and its tail, and what it leaves of the lent index.
 use Rattle.std.specs.Prelude.{ℕ, ◌+◌, List, length, leb}
 use Rattle.state.specs.Outcome.{Outcome, got, refused, bind, ask}
-use Rattle.state.specs.declared.Decoded.{Decoded}
 use Rattle.state_wire.specs.Fields.{max_snapshot_bytes}
 use Rattle.format.specs.Format.{El}
 use Rattle.format.specs.Manifest.{manifest}
-use Rattle.questions.specs.Answers.{judge, decoded_of, index_after}
+use Rattle.questions.specs.Answers.{Decoded, judge, decoded_of, index_after}
 use Rattle.tail.specs.Tail.{read_tail}
 
 -- "Its base is the manifest's base plus the manifest's length": positions of the tail count on from the manifest's n bytes

@@ -6,9 +6,9 @@ pub returns-in_default : goal.returns-in_default
 unfolding block_key
 returns-in_default c = search steps
 
-pub returns-then-t : goal.returns-then-t
+pub returns-then-authored : goal.returns-then-authored
 unfolding block_key
-returns-then-t c = search steps
+returns-then-authored c = search steps
 
 pub returns-in_default-name : goal.returns-in_default-name
 unfolding block_key

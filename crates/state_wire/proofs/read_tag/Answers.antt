@@ -1,12 +1,12 @@
-use Rattle.state_wire.proofs.Fields.{fields, tag-known, tag-unknown}
+use Rattle.state_wire.proofs.Fields.{byte-missing, byte-known, byte-unknown}
 use native.Mathlib.Omega.{arith}
 use Rattle.state_wire.proofs.read_tag.Goals as goal
 
-pub returns-in_default : goal.returns-in_default
-returns-in_default c = search fields
+pub returns-then-remaining-eq0 : goal.returns-then-remaining-eq0
+returns-then-remaining-eq0 c = byte-missing _ _ _ (omega arith)
 
-pub returns-then-t-from : goal.returns-then-t-from
-returns-then-t-from c = tag-known _ _ _ c.read_u8-tag.ensures c.in-Ok.is (omega arith)
+pub returns-then-tag-known : goal.returns-then-tag-known
+returns-then-tag-known c = byte-known _ _ _ (omega arith) (omega arith)
 
-pub returns-else-t-from : goal.returns-else-t-from
-returns-else-t-from c = tag-unknown _ _ _ c.read_u8-tag.ensures c.in-Ok.is (omega arith)
+pub returns-else-tag-known : goal.returns-else-tag-known
+returns-else-tag-known c = byte-unknown _ _ _ (omega arith) (omega arith)
