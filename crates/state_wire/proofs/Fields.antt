@@ -140,4 +140,4 @@ text-part limit s at e h = let y = step-yields (yields-text limit s at) e h in s
 pub text-none : (limit : ℕ) (s : List ℕ) (at : ℕ) {r : Stepped} {d : Refusal ℕ} → r ≡ step_of (read_text limit s at) → r ≡ Err d → [] ≡ text_of (read_text limit s at)
 text-none limit s at e h = sym (ap text_of (step-refused (read_text limit s at) e h))
 
-pub ruleset fields = (there, take_next, take_short, number-next, number_short, tag-refused, tag-known, tag-unknown, count-within, count-over, text-refused, text-long, text-short, text-next, text-bad)
+pub ruleset fields = (there, take_next, take_short, number-next, number_short, tag-refused, tag-known, tag-unknown, count-within, count-over, text-refused, text-long, text-short, text-next, text-bad, valid-fits, text-ends, text-part)

@@ -1,5 +1,5 @@
 // Fields of the wire, read where they stand: little-endian numbers, tags, counts and strings.
-#![tactic(auto)]
+#![tactic(auto, using(crate::proofs::Fields::fields))]
 
 ghost use Rattle.std.specs.Prelude.{◌≡◌, ◌+◌, ◌*◌, ◌-◌, ◌≤◌, length, leb};
 ghost use Rattle.state.specs.Bytes.{span, number_of};
@@ -91,7 +91,7 @@ pub fn read_tag(s: &[u8], at: usize, known: u8) -> Field
 pub fn bounded_count(s: &[u8], next: usize, count: u64, least: u64) -> Field
     ensures { result ≡ field_of (bounded_count least s.now count next) }
 {
-    if least == 0 || count <= remaining(s, next) as u64 / least {
+    if count.saturating_mul(least) <= remaining(s, next) as u64 {
         Ok((count, next))
     } else {
         Err(Refusal {
