@@ -1,5 +1,5 @@
 // Fields of the wire, read where they stand: little-endian numbers, tags, counts and strings.
-#![tactic(auto, using(crate::proofs::Fields::fields))]
+#![tactic(auto, using(crate::proofs::Fields::within), unfolding(crate::specs::Fields::read_span, crate::specs::Fields::read_number, crate::specs::Fields::read_tag, crate::specs::Fields::bounded_count, crate::specs::Fields::read_text))]
 
 ghost use Rattle.std.specs.Prelude.{◌≡◌, ◌+◌, ◌*◌, ◌-◌, ◌≤◌, length, leb};
 ghost use Rattle.state.specs.Bytes.{span, number_of};
@@ -43,7 +43,7 @@ pub fn take(s: &[u8], at: usize, n: usize) -> Step
     }
 }
 
-// The number that W bytes spell at a position that has them.
+// The number that W bytes spell at a position that has them: one load where W is 4 or 8.
 pub fn number_at<const W: usize>(s: &[u8], at: usize) -> u64
     requires fits { at + W ≤ length s.now }
     requires width { W ≤ 8 }

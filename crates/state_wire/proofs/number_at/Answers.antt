@@ -1,6 +1,5 @@
 use Rattle.std.proofs.Common.{rules}
 use mathlib.Core.Path.{ap, ◌∙◌}
-use native.Mathlib.Omega.{arith}
 use Rattle.state.specs.Bytes.{number_of}
 use Rattle.state_wire.proofs.Numbers.{number-wide}
 use Rattle.state_wire.proofs.number_at.Goals as goal
