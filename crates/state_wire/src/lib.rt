@@ -1,5 +1,5 @@
 // Fields of the wire, read where they stand: little-endian numbers, tags, counts and strings.
-#![tactic(auto)]
+#![tactic(auto, using(crate::proofs::Fields::within), unfolding(crate::specs::Fields::read_span, crate::specs::Fields::read_number, crate::specs::Fields::read_tag, crate::specs::Fields::bounded_count, crate::specs::Fields::read_text))]
 
 ghost use Rattle.std.specs.Prelude.{◌≡◌, ◌+◌, ◌*◌, ◌-◌, ◌≤◌, length, leb};
 ghost use Rattle.state.specs.Bytes.{span, number_of};
@@ -43,52 +43,24 @@ pub fn take(s: &[u8], at: usize, n: usize) -> Step
     }
 }
 
-// The number at a position that has its bytes.
-pub fn u32_at(s: &[u8], at: usize) -> u32
-    requires { at + 4 ≤ length s.now }
-    ensures { result ≡ number_of (span s.now at (at + 4)) }
+// The number that W bytes spell at a position that has them: one load where W is 4 or 8.
+pub fn number_at<const W: usize>(s: &[u8], at: usize) -> u64
+    requires fits { at + W ≤ length s.now }
+    requires width { W ≤ 8 }
+    ensures { result ≡ number_of (span s.now at (at + W)) }
 {
-    u32::from_le_bytes([s[at], s[at + 1], s[at + 2], s[at + 3]])
+    let mut bytes = [0; 8];
+    bytes[..W].copy_from_slice(&s[at..at + W]);
+    u64::from_le_bytes(bytes)
 }
 
-pub fn u64_at(s: &[u8], at: usize) -> u64
-    requires { at + 8 ≤ length s.now }
-    ensures { result ≡ number_of (span s.now at (at + 8)) }
+// A number of W bytes.
+pub fn read_number<const W: usize>(s: &[u8], at: usize) -> Field
+    requires width { W ≤ 8 }
+    ensures { result ≡ field_of (read_number W s.now at) }
 {
-    u64::from(u32_at(s, at)) + 4294967296 * u64::from(u32_at(s, at + 4))
-}
-
-pub fn read_u8(s: &[u8], at: usize) -> Field
-    ensures { result ≡ field_of (read_number 1 s.now at) }
-{
-    if enough(s, at, 1) {
-        Ok((u64::from(s[at]), at + 1))
-    } else {
-        Err(Refusal {
-            question: Question(3),
-            at,
-        })
-    }
-}
-
-pub fn read_u32(s: &[u8], at: usize) -> Field
-    ensures { result ≡ field_of (read_number 4 s.now at) }
-{
-    if enough(s, at, 4) {
-        Ok((u64::from(u32_at(s, at)), at + 4))
-    } else {
-        Err(Refusal {
-            question: Question(3),
-            at,
-        })
-    }
-}
-
-pub fn read_u64(s: &[u8], at: usize) -> Field
-    ensures { result ≡ field_of (read_number 8 s.now at) }
-{
-    if enough(s, at, 8) {
-        Ok((u64_at(s, at), at + 8))
+    if enough(s, at, W) {
+        Ok((number_at::<W>(s, at), at + W))
     } else {
         Err(Refusal {
             question: Question(3),
@@ -98,6 +70,7 @@ pub fn read_u64(s: &[u8], at: usize) -> Field
 }
 
 // A tag: a byte below `known`.
+#[tactic(auto, using(crate::proofs::Fields::byte), unfolding(crate::specs::Fields::read_span, crate::specs::Fields::read_number, crate::specs::Fields::read_tag))]
 pub fn read_tag(s: &[u8], at: usize, known: u8) -> Result<(u8, usize), Refusal<usize>>
     ensures { result ≡ field_of (read_tag known s.now at) }
 {
@@ -123,7 +96,7 @@ pub fn read_tag(s: &[u8], at: usize, known: u8) -> Result<(u8, usize), Refusal<u
 pub fn bounded_count(s: &[u8], next: usize, count: u64, least: u64) -> Field
     ensures { result ≡ field_of (bounded_count least s.now count next) }
 {
-    if least == 0 || count <= remaining(s, next) as u64 / least {
+    if count.saturating_mul(least) <= remaining(s, next) as u64 {
         Ok((count, next))
     } else {
         Err(Refusal {
@@ -144,7 +117,7 @@ pub fn step_of<N: Drop>(f: Result<(N, usize), Refusal<usize>>) -> Step
 pub fn string_bounded(s: &[u8], at: usize, limit: usize) -> Step
     ensures { result ≡ step_of (read_text limit s.now at) }
 {
-    let length = read_u32(s, at);
+    let length = read_number::<4>(s, at);
     let Ok((n, start)) = length else {
         return step_of(length);
     };
