@@ -10,7 +10,6 @@ use borrow.Author.Tests.{eqb-true}
 use Rattle.text.proofs.Blocks.{both}
 use Rattle.state.specs.Bytes.{AreBytes}
 use Rattle.state.specs.Outcome.{got}
-use Rattle.state.specs.declared.Verdict.TheVariants.{Differs}
 use Rattle.state_wire.specs.Fields.{max_snapshot_bytes}
 use Rattle.format.specs.Format.{El, text, number, tag, encode}
 use Rattle.format.specs.Keys.{block_key, connector_key, owner, direction, port_index}
@@ -27,7 +26,7 @@ use Rattle.questions.proofs.Accepted.{passed-canonical, judge-tells, declaration
 use Rattle.questions.proofs.Ascends.{same-sets}
 use Rattle.questions.proofs.Ports.{port-so, Passes}
 use Rattle.questions.proofs.Impossible.{blocks-pass}
-use Rattle.verdict.specs.Verdict.{head_verdict, param_verdict, params_verdict, ports_verdict, block_verdict, entrywise, verdict}
+use Rattle.verdict.specs.Verdict.{differs, head_verdict, param_verdict, params_verdict, ports_verdict, block_verdict, entrywise, verdict}
 use Rattle.verdict.proofs.Faithful.{or-both, field-finds}
 use Rattle.verdict.proofs.Words.{connectors-ascend}
 use Rattle.verdict.proofs.Reached.{reached, InPart, of, part_of, field-part, or-part, From, from-any, from_all, along-part}
@@ -130,7 +129,7 @@ module _ {m : El manifest} (a : AllYes m) where
 -- ---- two such manifests
 module _ {m m' : El manifest} (a : AllYes m) (a' : AllYes m') where
   -- blocks are never said to differ in an input (part 9) or an output (part 11), only in how many there are
-  pub ports-agree : {p e i : ℕ} → verdict m m' ≡ Differs 3 p e i → (p ≡ 9 → ⊥) × (p ≡ 11 → ⊥)
+  pub ports-agree : {p e i : ℕ} → verdict m m' ≡ differs 3 p e i → (p ≡ 9 → ⊥) × (p ≡ 11 → ⊥)
   unfolding verdict manifest blocks_of
   ports-agree {p} d =
       let r = reached 2 m m' a.holds a'.holds d in
@@ -138,7 +137,7 @@ module _ {m m' : El manifest} (a : AllYes m) (a' : AllYes m') where
       (λ z. false≢true (subst Other z o), λ z. false≢true (subst Other z o))
 
   -- connectors are never said to be more or fewer
-  pub connectors-as-many : {p e i : ℕ} → verdict m m' ≡ Differs 4 p e i → p ≡ 0
+  pub connectors-as-many : {p e i : ℕ} → verdict m m' ≡ differs 4 p e i → p ≡ 0
   unfolding verdict manifest blocks_of connectors_of connector_names
   connectors-as-many d =
       let r = reached 3 m m' a.holds a'.holds d in
@@ -148,7 +147,7 @@ module _ {m m' : El manifest} (a : AllYes m) (a' : AllYes m') where
       part_of (subst (InPart (λ p. p ≡ 0)) r.1.1.1 (entries-part 4 connectors (connectors_of m) (connectors_of m') (simp length-map at (ap length n))))
 
   -- nor are input definitions
-  pub definitions-as-many : {p e i : ℕ} → verdict m m' ≡ Differs 12 p e i → p ≡ 0
+  pub definitions-as-many : {p e i : ℕ} → verdict m m' ≡ differs 12 p e i → p ≡ 0
   unfolding verdict manifest connectors_of external_inputs_of input_definitions_of
   definitions-as-many d =
       let r = reached 11 m m' a.holds a'.holds d in
