@@ -82,7 +82,7 @@ infixr 20 ◌followed-by◌
 unfolding encode
 ◌followed-by◌ {a} {b} {c} {d} x y = record {
   alike = λ v w h.
-      let o : (c v.0 w.0 ≡ compatible) × (d v.1 w.1 ≡ compatible) = or-both (c v.0 w.0) (d v.1 w.1) h in
+      let o = or-both (c v.0 w.0) (d v.1 w.1) h in
       rw (x.alike v.0 w.0 o.0, y.alike v.1 w.1 o.1);
   self = λ v. rw (x.self v.0, y.self v.1);
   within = λ v w. or-within (c v.0 w.0) (d v.1 w.1) (x.within v.0 w.0) (y.within v.1 w.1);
@@ -94,43 +94,46 @@ unfolding encode
 key-finds x = record { alike = λ v w h. rw (x.alike v.0 w.0 h); self = λ v. x.self v.0; within = λ v w. x.within v.0 w.0 }
 
 -- a list: entry by entry, and its count
-module _ {k : ℕ} (w l : ℕ) (u : Rule) (key rest : Fmt) (entry_at : ℕ → El (key then rest) → El (key then rest) → Agreement) (count_at : ℕ → Agreement)
-    (finds : (i : ℕ) → Finds k (key then rest) (entry_at i)) (counts : (i : ℕ) → (d : Difference) × (count_at i ≡ Err d) × (d.section ≡ k)) where
+module _ {k : ℕ} (w l : ℕ) (u : Rule) (key rest : Fmt) (entry_at : ℕ → El (key then rest) → El (key then rest) → Agreement) (count_at : ℕ → Difference)
+    (finds : (i : ℕ) → Finds k (key then rest) (entry_at i)) (counts : (i : ℕ) → (count_at i).section ≡ k) where
+  -- what the two lists come to
+  abbrev walk : (i : ℕ) (xs ys : List (El (key then rest))) → Agreement
+  walk = along entry_at (λ i. Err (count_at i))
+
   -- the entries as they are written, without the count
   abbrev written : List (El (key then rest)) → List ℕ
   written = each (λ e. encode key e.0 ++ encode rest e.1)
 
   -- where nothing is found, the counts and the entries are the same
-  along-alike : (i : ℕ) (xs ys : List (El (key then rest))) → along entry_at count_at i xs ys ≡ compatible → (length xs ≡ length ys) × (written xs ≡ written ys)
+  along-alike : (i : ℕ) (xs ys : List (El (key then rest))) → walk i xs ys ≡ compatible → (length xs ≡ length ys) × (written xs ≡ written ys)
   unfolding along encode
   along-alike i [] [] h = (refl, refl)
-  along-alike i [] (y ∷ ys) h = cc (counts i).1
-  along-alike i (x ∷ xs) [] h = cc (counts i).1
+  along-alike i [] (y ∷ ys) h = cc
+  along-alike i (x ∷ xs) [] h = cc
   along-alike i (x ∷ xs) (y ∷ ys) h =
-      let o : (entry_at i x y ≡ compatible) × (along entry_at count_at (suc i) xs ys ≡ compatible) = or-both (entry_at i x y) (along entry_at count_at (suc i) xs ys) h in
-      let r : (length xs ≡ length ys) × (written xs ≡ written ys) = along-alike (suc i) xs ys o.1 in
-      let q : encode key x.0 ++ encode rest x.1 ≡ encode key y.0 ++ encode rest y.1 = (finds i).alike x y o.0 in
-      (ap suc r.0, rw (q, r.1))
+      let o = or-both (entry_at i x y) (walk (suc i) xs ys) h in
+      let r = along-alike (suc i) xs ys o.1 in
+      (ap suc r.0, rw ((finds i).alike x y o.0, r.1))
 
   -- a list beside itself
-  along-self : (i : ℕ) (xs : List (El (key then rest))) → along entry_at count_at i xs xs ≡ compatible
+  along-self : (i : ℕ) (xs : List (El (key then rest))) → walk i xs xs ≡ compatible
   unfolding along
   along-self i [] = refl
   along-self i (x ∷ xs) = rw ((finds i).self x, along-self (suc i) xs)
 
   -- what is found is in an entry or in the count
-  along-within : (i : ℕ) (xs ys : List (El (key then rest))) → Within k (along entry_at count_at i xs ys)
+  along-within : (i : ℕ) (xs ys : List (El (key then rest))) → Within k (walk i xs ys)
   unfolding along
   along-within i [] [] d h = cc
-  along-within i [] (y ∷ ys) d h = cc ((counts i).1, (counts i).2)
-  along-within i (x ∷ xs) [] d h = cc ((counts i).1, (counts i).2)
-  along-within i (x ∷ xs) (y ∷ ys) d h = or-within (entry_at i x y) (along entry_at count_at (suc i) xs ys) ((finds i).within x y) (along-within (suc i) xs ys) d h
+  along-within i [] (y ∷ ys) d h = cc (counts i)
+  along-within i (x ∷ xs) [] d h = cc (counts i)
+  along-within i (x ∷ xs) (y ∷ ys) d h = or-within (entry_at i x y) (walk (suc i) xs ys) ((finds i).within x y) (along-within (suc i) xs ys) d h
 
   -- and so of the list as a format
-  list-finds : Finds k (list w l u key rest) (along entry_at count_at 0)
+  list-finds : Finds k (list w l u key rest) (walk 0)
   unfolding encode
   list-finds = record {
-    alike = λ v w h. let r : (length v ≡ length w) × (written v ≡ written w) = along-alike 0 v w h in rw (r.0, r.1);
+    alike = λ v w h. let r = along-alike 0 v w h in rw (r.0, r.1);
     self = along-self 0;
     within = along-within 0;
   }
@@ -139,12 +142,12 @@ module _ {k : ℕ} (w l : ℕ) (u : Rule) (key rest : Fmt) (entry_at : ℕ → E
 -- parameters: a name and a value each
 params-finds : (i : ℕ) → Finds 3 params (params_verdict i)
 unfolding params params_verdict param_verdict
-params-finds i = list-finds 4 6 _ text value _ _ (λ j. field-finds 3 text 6 i j followed-by field-finds 3 value 7 i j) (λ j. (_, refl, refl))
+params-finds i = list-finds 4 6 _ text value _ _ (λ j. field-finds 3 text 6 i j followed-by field-finds 3 value 7 i j) (λ j. refl)
 
 -- inputs or outputs: a connector's key each
 ports-finds : (p i : ℕ) → Finds 3 connector_keys (ports_verdict p i)
 unfolding connector_keys ports_verdict
-ports-finds p i = list-finds 4 10 _ connector_key done _ _ (λ j. key-finds (field-finds 3 connector_key p i j)) (λ j. (_, refl, refl))
+ports-finds p i = list-finds 4 10 _ connector_key done _ _ (λ j. key-finds (field-finds 3 connector_key p i j)) (λ j. refl)
 
 -- a block, part by part
 block-finds : (i : ℕ) → Finds 3 (entry blocks) (block_verdict i)
@@ -163,7 +166,7 @@ whole-faithful k f = field-finds k f 0 0 0
 
 -- a list, entry by entry
 listwise-faithful : (k : ℕ) (e : Section) (c : ℕ → Entry e → Entry e → Agreement) → ((i : ℕ) → Finds k (entry e) (c i)) → Faithful k (listwise k e c)
-listwise-faithful k e c finds = list-finds 4 e.least e.rule e.key e.rest c _ finds (λ i. (_, refl, refl))
+listwise-faithful k e c finds = list-finds 4 e.least e.rule e.key e.rest c _ finds (λ i. refl)
 
 -- a list of whole entries
 entrywise-faithful : (k : ℕ) (e : Section) → Faithful k (entrywise k e)
