@@ -13,10 +13,11 @@ use Rattle.format.specs.Manifest.{value, params, connector_keys, block_head, blo
 use Rattle.format.specs.Fields.{Entry, block_key_of, class_path, kind, state_revision, state_len, params_of, inputs, outputs}
 use Rattle.format.proofs.Lists.{same_true, same_refl}
 use Rattle.verdict.specs.Verdict.{Agreement, compatible, differs, ◌or_else◌, field, along, head_verdict, param_verdict, params_verdict, ports_verdict, block_verdict, Comparison, whole, listwise, entrywise, comparisons}
+use Rattle.verdict.proofs.Gives.{Gives, of, field-gives, or-gives, from-any, along-gives}
 
--- where it is a difference, it is one in section k
-abbrev Within : (k : ℕ) → Agreement → Type 0
-Within k a = (d : Difference) → a ≡ Err d → d.section ≡ k
+-- no difference, or one in section k
+abbrev pub Within : (k : ℕ) → Agreement → Type 0
+Within k = Gives (λ d. d.section ≡ k)
 
 -- what a comparison of values of a format finds, as a part of section k
 pub record Finds (k : ℕ) (f : Fmt) (c : El f → El f → Agreement) : Type 0 where
@@ -39,11 +40,6 @@ pub or-both : (a b : Agreement) → a or_else b ≡ compatible → (a ≡ compat
 or-both (Ok u) b h = (refl, h)
 or-both (Err d) b h = cc
 
--- the first difference of two in section k is in section k
-or-within : {k : ℕ} (a b : Agreement) → Within k a → Within k b → Within k (a or_else b)
-or-within (Ok u) b x y = y
-or-within (Err d) b x y = x
-
 -- of three, however they are bracketed
 or_assoc : (a b c : Agreement) → (a or_else b) or_else c ≡ a or_else b or_else c
 or_assoc (Ok u) b c = refl
@@ -55,7 +51,7 @@ alike-finds : {k : ℕ} {f : Fmt} {c d : El f → El f → Agreement} → ((v w 
 alike-finds e x = record {
   alike = λ v w h. x.alike v w (sym (e v w) ∙ h);
   self = λ v. e v v ∙ x.self v;
-  within = λ v w d h. x.within v w d (sym (e v w) ∙ h);
+  within = λ v w. rw (e v w) (x.within v w);
 }
 
 -- a field, compared as it is written
@@ -64,16 +60,12 @@ unfolding field
 field-finds k f p e i = record {
   alike = λ v w h. same_true _ _ (found (same (encode f v) (encode f w)) h);
   self = λ v. rw (same_refl (encode f v));
-  within = λ v w. missed (same (encode f v) (encode f w));
+  within = λ v w. field-gives f v w (λ _. of refl);
 }
   where
     found : (b : Bool) → cond b compatible (differs k p e i) ≡ compatible → b ≡ true
     found true h = refl
     found false h = cc
-
-    missed : (b : Bool) → Within k (cond b compatible (differs k p e i))
-    missed true d h = cc
-    missed false d h = cc
 
 -- one after the other
 infixr 20 ◌followed-by◌
@@ -85,7 +77,7 @@ unfolding encode
       let o = or-both (c v.0 w.0) (d v.1 w.1) h in
       rw (x.alike v.0 w.0 o.0, y.alike v.1 w.1 o.1);
   self = λ v. rw (x.self v.0, y.self v.1);
-  within = λ v w. or-within (c v.0 w.0) (d v.1 w.1) (x.within v.0 w.0) (y.within v.1 w.1);
+  within = λ v w. or-gives (x.within v.0 w.0) (λ _. y.within v.1 w.1);
 }
 
 -- nothing after it
@@ -121,21 +113,13 @@ module _ {k : ℕ} (w l : ℕ) (u : Rule) (key rest : Fmt) (entry_at : ℕ → E
   along-self i [] = refl
   along-self i (x ∷ xs) = rw ((finds i).self x, along-self (suc i) xs)
 
-  -- what is found is in an entry or in the count
-  along-within : (i : ℕ) (xs ys : List (El (key then rest))) → Within k (walk i xs ys)
-  unfolding along
-  along-within i [] [] d h = cc
-  along-within i [] (y ∷ ys) d h = cc (counts i)
-  along-within i (x ∷ xs) [] d h = cc (counts i)
-  along-within i (x ∷ xs) (y ∷ ys) d h = or-within (entry_at i x y) (walk (suc i) xs ys) ((finds i).within x y) (along-within (suc i) xs ys) d h
-
   -- and so of the list as a format
   list-finds : Finds k (list w l u key rest) (walk 0)
   unfolding encode
   list-finds = record {
     alike = λ v w h. let r = along-alike 0 v w h in rw (r.0, r.1);
     self = along-self 0;
-    within = along-within 0;
+    within = λ xs ys. along-gives (λ i x y _ _. (finds i).within x y) 0 xs ys (from-any 0 xs) (from-any 0 ys) (λ _ i. of (counts i));
   }
 
 -- ---- blocks

@@ -6,7 +6,7 @@ use mathlib.Core.Bool.{true}
 use mathlib.Core.List.{List, [], ◌∷◌, ◌++◌}
 use lib.ListN.{length, get_or, take, drop}
 use lib.Seq.{take-length, take-add, take-take, get_or-take, get_or-drop, ext_get_or}
-use Rattle.std.specs.Prelude.{Ok, Err}
+use Rattle.std.specs.Prelude.{Err}
 use Rattle.text.proofs.Blocks.{both}
 use Rattle.state.specs.Bytes.{AreBytes}
 use Rattle.state.specs.Outcome.{got}
@@ -26,7 +26,8 @@ use Rattle.format.proofs.Apart.{Apart, written_apart}
 use Rattle.format.proofs.Canonical.{manifest-honest}
 use Rattle.verdict.specs.Verdict.{Agreement, compatible, ◌or_else◌, Comparison, comparisons, formats, over, verdict}
 use Rattle.verdict.specs.Demand3.{Named, VerdictRight}
-use Rattle.verdict.proofs.Faithful.{AllFaithful, comparisons-faithful}
+use Rattle.verdict.proofs.Gives as gives
+use Rattle.verdict.proofs.Faithful.{Within, AllFaithful, comparisons-faithful}
 
 -- ---- bytes that stand in others
 module _ {s : List ℕ} {a b : ℕ} {x : List ℕ} (p : Part s a b x) where
@@ -137,7 +138,7 @@ module _ (limit : ℕ) (s t : List ℕ) where
         → Says k (formats cs) a b (over cs (value_at (sequence (formats cs)) s a) (value_at (sequence (formats cs)) t b))
     unfolding over past value_at honest
     over-says k a b [] faithful h r p q = same (sym (take-length s) ∙ rw (← p.ends, ← q.ends) r.1 ∙ take-length t)
-    over-says k a b (c ∷ cs) faithful h r p q = go (c.compare v w) refl (λ r'. over-says (suc k) _ _ cs faithful.1 (both (honest f) _ h).1 r' (left-then limit s p).1 (left-then limit t q).1)
+    over-says k a b (c ∷ cs) faithful h r p q = go refl (faithful.0.within v w) (λ r'. over-says (suc k) _ _ cs faithful.1 (both (honest f) _ h).1 r' (left-then limit s p).1 (left-then limit t q).1)
       where
         f : Fmt
         f = c.format
@@ -157,10 +158,10 @@ module _ (limit : ℕ) (s t : List ℕ) where
         rest : Agreement
         rest = over cs (value_at (sequence (formats cs)) s (past f s a)) (value_at (sequence (formats cs)) t (past f t b))
 
-        go : (x : Agreement) → c.compare v w ≡ x → (Same (past f s a) (past f t b) → Says (suc k) (formats cs) (past f s a) (past f t b) rest)
+        go : {x : Agreement} → c.compare v w ≡ x → Within k x → (Same (past f s a) (past f t b) → Says (suc k) (formats cs) (past f s a) (past f t b) rest)
             → Says k (f ∷ formats cs) a b (x or_else rest)
-        go (Ok u) e says = later (rw (end-got limit f s a at-s.reads, end-got limit f t b at-t.reads) (says (onward r at-s at-t (faithful.0.alike v w e))))
-        go (Err d) e says = here (formats cs) (faithful.0.within v w d e) (both (honest f) _ h).0 r at-s at-t (λ i. cc (e, i, faithful.0.self v))
+        go e gives.same says = later (rw (end-got limit f s a at-s.reads, end-got limit f t b at-t.reads) (says (onward r at-s at-t (faithful.0.alike v w e))))
+        go e (gives.of q) says = here (formats cs) q (both (honest f) _ h).0 r at-s at-t (λ i. cc (e, i, faithful.0.self v))
 
 -- ---- demand 3's sentences
 -- the start of section k is that of the i-th where k is 1 + i
