@@ -89,7 +89,7 @@ def told(a, b):
 def pair_row(where, what, a, b):
     expected = ["differs", *map(str, where)] if where else ["compatible"]
     assert told(a, b) == expected, (what, told(a, b))
-    verdict = "(Differs %d %d %d %d)" % where if where else "Compatible"
+    verdict = "(differs %d %d %d %d)" % where if where else "compatible"
     return '    -- %s\n    ∷ pair_of "%s" "%s" %s\n' % (what, printed(a), printed(b), verdict)
 
 

@@ -1,21 +1,22 @@
 -- Demand 3 of the calls' answers. Its sentences are the statements of specs/Demand3.antt.
 use Prim.Native.Nat.{ℕ, ◌-◌, ◌^◌}
-use native.Mathlib.Omega.{arith}
 use mathlib.Core.Path.{◌≡◌, sym, ◌∙◌}
 use mathlib.Core.Bool.{Bool, true, false, cond}
 use mathlib.Core.List.{List}
 use lib.Dec.{leb}
+use Rattle.verdict.specs.Verdict.{Agreement}
+use Rattle.std.specs.Prelude.{Result, Ok, IsOk, IsOkAnd}
 use Rattle.state.specs.Bytes.{AreBytes}
 use Rattle.state.specs.Outcome.{got}
-use Rattle.state.specs.declared.Answer.TheVariants.{Accepted}
+use Rattle.state.specs.Outcome.{refuses}
+use Rattle.state.specs.declared.Refusal.{Refusal}
+use Rattle.state.specs.declared.Side.{Side}
 use Rattle.state.specs.declared.Units.{Units}
-use Rattle.state.specs.declared.Units.TheVariants.{Of, Refused}
-use Rattle.state.specs.declared.Verdict.{Verdict}
 use Rattle.format.specs.Format.{El}
 use Rattle.format.specs.Manifest.{manifest}
 use Rattle.format.specs.Fields.{slots_of}
 use Rattle.questions.specs.Answers.{judge, decode_manifest}
-use Rattle.questions.specs.Units.{word_total, units_of, units_answer}
+use Rattle.questions.specs.Units.{word_total, units_of, units_in, units_answer}
 use Rattle.questions.proofs.Accepted.{passed-canonical, judge-tells, slots-say-yes, accepted-got}
 use Rattle.verdict.specs.Answers.{compare_manifests}
 use Rattle.verdict.specs.Demand3.{VerdictRight, state_words, WordsHeld}
@@ -26,8 +27,8 @@ use Rattle.verdict.proofs.Words.{words-held}
 -- revision and index each
 module _ (bound : List (List ℕ)) (s : List ℕ) (base revision : ℕ) (index : List ℕ) (t : List ℕ) (base' revision' : ℕ) (index' : List ℕ) (bytes : AreBytes s) (bytes' : AreBytes t)
     -- r is what `compare_manifests` answers
-    {r : Verdict} (answered : r ≡ compare_manifests bound s base revision index t base' revision' index') where
-  pub verdict-right : (decode_manifest bound s base revision index).answer ≡ Accepted → (decode_manifest bound t base' revision' index').answer ≡ Accepted → VerdictRight s t r
+    {r : Result Agreement Side} (answered : r ≡ compare_manifests bound s base revision index t base' revision' index') where
+  pub verdict-right : IsOk (decode_manifest bound s base revision index) → IsOk (decode_manifest bound t base' revision' index') → IsOkAnd r (VerdictRight s t)
   unfolding compare_manifests
   verdict-right snapshot target =
       let a = accepted-got bound revision s base index snapshot in
@@ -44,10 +45,10 @@ module _ (bound : List (List ℕ)) (s : List ℕ) (revision w : ℕ) (bytes : Ar
       words-held m (passed-canonical s w bytes j.passed).1 (slots-say-yes bound revision m j.none)
 
   -- "that sum is the word total wherever one is given": r is what `units` answers
-  pub words-given : (base : ℕ) {r : Units} → r ≡ units_answer base (judge bound revision s w) → (total units : ℕ) → r ≡ Of total units → total ≡ state_words m
+  pub words-given : (base : ℕ) {r : Result Units (Refusal ℕ)} → r ≡ units_answer base (judge bound revision s w) → (u : Units) → r ≡ Ok u → u.words ≡ state_words m
   unfolding units_answer
-  words-given base e total units i = given (leb (units_of m) (2 ^ 64 - 1)) (sym i ∙ e ∙ rw accepted) ∙ words-are-held.total
+  words-given base e u i = given (leb (units_of m) (2 ^ 64 - 1)) (sym i ∙ e ∙ rw accepted) ∙ words-are-held.total
     where
-      given : (b : Bool) → Of total units ≡ cond b (Of (word_total (slots_of m)) (units_of m)) (Refused 39 0) → total ≡ word_total (slots_of m)
+      given : (b : Bool) → Ok u ≡ cond b (Ok (units_in m)) (refuses 39 0) → u.words ≡ word_total (slots_of m)
       given true h = cc
-      given false h = let z : ◌≡◌ {A = ℕ} 0 1 = cc in absurd (omega arith)
+      given false h = cc

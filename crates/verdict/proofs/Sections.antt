@@ -6,11 +6,11 @@ use mathlib.Core.Bool.{true}
 use mathlib.Core.List.{List, [], ◌∷◌, ◌++◌}
 use lib.ListN.{length, get_or, take, drop}
 use lib.Seq.{take-length, take-add, take-take, get_or-take, get_or-drop, ext_get_or}
+use Rattle.std.specs.Prelude.{Err}
 use Rattle.text.proofs.Blocks.{both}
 use Rattle.state.specs.Bytes.{AreBytes}
 use Rattle.state.specs.Outcome.{got}
-use Rattle.state.specs.declared.Verdict.{Verdict}
-use Rattle.state.specs.declared.Verdict.TheVariants.{Compatible, Differs, SnapshotRefused, TargetRefused}
+use Rattle.state.specs.declared.Difference.{Difference}
 use Rattle.state.proofs.Bytes.{Part}
 use Rattle.state_wire.specs.Fields.{max_snapshot_bytes}
 use Rattle.format.specs.Format.{Fmt, El, read, encode}
@@ -24,9 +24,10 @@ use Rattle.format.proofs.Values.{spells, well, well-then}
 use Rattle.format.proofs.Places.{end-got}
 use Rattle.format.proofs.Apart.{Apart, written_apart}
 use Rattle.format.proofs.Canonical.{manifest-honest}
-use Rattle.verdict.specs.Verdict.{◌or_else◌, Comparison, comparisons, formats, over, verdict}
+use Rattle.verdict.specs.Verdict.{Agreement, compatible, ◌or_else◌, Comparison, comparisons, formats, over, verdict}
 use Rattle.verdict.specs.Demand3.{Named, VerdictRight}
-use Rattle.verdict.proofs.Faithful.{AllFaithful, no_difference, comparisons-faithful}
+use Rattle.verdict.proofs.Gives as gives
+use Rattle.verdict.proofs.Faithful.{Within, AllFaithful, comparisons-faithful}
 
 -- ---- bytes that stand in others
 module _ {s : List ℕ} {a b : ℕ} {x : List ℕ} (p : Part s a b x) where
@@ -42,13 +43,6 @@ module _ {s : List ℕ} {a b : ℕ} {x : List ℕ} (p : Part s a b x) where
 same-up-to : {s t : List ℕ} {a b m o : ℕ} {x y : List ℕ} → Part s a m x → Part t b o y → a ≡ b → take a s ≡ take b t
     → (n : ℕ) → n ≤ length x → n ≤ length y → take n x ≡ take n y → take (a + n) s ≡ take (a + n) t
 same-up-to {t = t} p q e front n h h' i = part-take p n h ∙ ap₂ ◌++◌ front i ∙ sym (part-take q n h') ∙ ap (λ (k : ℕ). take (k + n) t) (sym e)
-
--- a verdict is Compatible or is not
-is-compatible : (d : Verdict) → Dec (d ≡ Compatible)
-is-compatible Compatible = yes refl
-is-compatible (Differs k p e i) = no λ h. let z : ◌≡◌ {A = ℕ} 0 1 = cc in absurd (omega arith)
-is-compatible (SnapshotRefused q o) = no λ h. let z : ◌≡◌ {A = ℕ} 0 1 = cc in absurd (omega arith)
-is-compatible (TargetRefused q o) = no λ h. let z : ◌≡◌ {A = ℕ} 0 1 = cc in absurd (omega arith)
 
 -- ---- bytes that were read to their end
 -- from a on, as these formats, one after the other
@@ -90,15 +84,15 @@ module _ (limit : ℕ) (s t : List ℕ) where
     pub in-target : first < get_or (section_starts limit fs t b) (suc i) (length t)
 
   -- what a verdict says of the bytes, where those sections are numbered from k on
-  pub data Says (k : ℕ) (fs : List Fmt) (a b : ℕ) : Verdict → Type 0 where
-    same : s ≡ t → Says k fs a b Compatible
-    differ : {n p e j : ℕ} (i : ℕ) → n ≡ k + i → FirstIn fs a b i → Says k fs a b (Differs n p e j)
+  pub data Says (k : ℕ) (fs : List Fmt) (a b : ℕ) : Agreement → Type 0 where
+    same : s ≡ t → Says k fs a b compatible
+    differ : {d : Difference} (i : ℕ) → d.section ≡ k + i → FirstIn fs a b i → Says k fs a b (Err d)
 
   -- what it says of the sections after one, it says of all
-  later : {k : ℕ} {f : Fmt} {fs : List Fmt} {a b : ℕ} {d : Verdict} → Says (suc k) fs (end_at limit f s a) (end_at limit f t b) d → Says k (f ∷ fs) a b d
+  later : {k : ℕ} {f : Fmt} {fs : List Fmt} {a b : ℕ} {d : Agreement} → Says (suc k) fs (end_at limit f s a) (end_at limit f t b) d → Says k (f ∷ fs) a b d
   unfolding section_starts
   later (same e) = same e
-  later {k} (differ {n = n} i e x) = differ {n = n} (suc i) (omega arith) (record {
+  later (differ i e x) = differ (suc i) (omega arith) (record {
     there = omega (arith, x.there);
     starts = x.starts;
     first = x.first;
@@ -120,14 +114,14 @@ module _ (limit : ℕ) (s t : List ℕ) where
         (j, ap (λ (n : ℕ). take n s) x.ends ∙ same-up-to x y r.0 r.1 _ (omega arith) (omega (arith, l)) (rw i) ∙ ap (λ (n : ℕ). take n t) (sym x.ends ∙ j))
 
     -- a section of different values: the first difference lies in it
-    here : {k a b : ℕ} {f : Fmt} (fs : List Fmt) {p e j : ℕ} → honest f ≡ true → Same a b → Well limit f s a → Well limit f t b → (value_at f s a ≡ value_at f t b → ⊥)
-        → Says k (f ∷ fs) a b (Differs k p e j)
+    here : {k a b : ℕ} {f : Fmt} (fs : List Fmt) {d : Difference} → d.section ≡ k → honest f ≡ true → Same a b → Well limit f s a → Well limit f t b
+        → (value_at f s a ≡ value_at f t b → ⊥) → Says k (f ∷ fs) a b (Err d)
     unfolding section_starts
-    here {k} {a} {b} {f} fs h r w w' ne =
+    here {k} {a} {b} {f} fs e h r w w' ne =
         let x = well-stands limit s bytes w in
         let y = well-stands limit t bytes' w' in
         let d : Apart (encode f (value_at f s a)) (encode f (value_at f t b)) = written_apart limit f h (value_at f s a) (value_at f t b) x.holds y.holds ne in
-        differ {n = k} 0 (omega arith) (record {
+        differ 0 (omega arith) (record {
           there = omega arith;
           starts = r.0;
           first = a + d.at;
@@ -144,7 +138,7 @@ module _ (limit : ℕ) (s t : List ℕ) where
         → Says k (formats cs) a b (over cs (value_at (sequence (formats cs)) s a) (value_at (sequence (formats cs)) t b))
     unfolding over past value_at honest
     over-says k a b [] faithful h r p q = same (sym (take-length s) ∙ rw (← p.ends, ← q.ends) r.1 ∙ take-length t)
-    over-says k a b (c ∷ cs) faithful h r p q = go (is-compatible (c.compare v w)) (λ r'. over-says (suc k) _ _ cs faithful.1 (both (honest f) _ h).1 r' (left-then limit s p).1 (left-then limit t q).1)
+    over-says k a b (c ∷ cs) faithful h r p q = go refl (faithful.0.within v w) (λ r'. over-says (suc k) _ _ cs faithful.1 (both (honest f) _ h).1 r' (left-then limit s p).1 (left-then limit t q).1)
       where
         f : Fmt
         f = c.format
@@ -161,13 +155,13 @@ module _ (limit : ℕ) (s t : List ℕ) where
         at-t : Well limit f t b
         at-t = (left-then limit t q).0
 
-        rest : Verdict
+        rest : Agreement
         rest = over cs (value_at (sequence (formats cs)) s (past f s a)) (value_at (sequence (formats cs)) t (past f t b))
 
-        go : Dec (c.compare v w ≡ Compatible) → (Same (past f s a) (past f t b) → Says (suc k) (formats cs) (past f s a) (past f t b) rest)
-            → Says k (f ∷ formats cs) a b (c.compare v w or_else rest)
-        go (yes e) says = rw e (later (rw (end-got limit f s a at-s.reads, end-got limit f t b at-t.reads) (says (onward r at-s at-t (faithful.0.alike v w e)))))
-        go (no n) says = rw (faithful.0.differs v w n).3 (here (formats cs) (both (honest f) _ h).0 r at-s at-t (λ i. n (ap (c.compare v) (sym i) ∙ faithful.0.self v)))
+        go : {x : Agreement} → c.compare v w ≡ x → Within k x → (Same (past f s a) (past f t b) → Says (suc k) (formats cs) (past f s a) (past f t b) rest)
+            → Says k (f ∷ formats cs) a b (x or_else rest)
+        go e gives.same says = later (rw (end-got limit f s a at-s.reads, end-got limit f t b at-t.reads) (says (onward r at-s at-t (faithful.0.alike v w e))))
+        go e (gives.of q) says = here (formats cs) q (both (honest f) _ h).0 r at-s at-t (λ i. cc (e, i, faithful.0.self v))
 
 -- ---- demand 3's sentences
 -- the start of section k is that of the i-th where k is 1 + i
@@ -195,11 +189,11 @@ module _ (s t : List ℕ) where
       }
 
   -- a verdict that says where the bytes first differ is right
-  says-right : {d : Verdict} → Says max_snapshot_bytes s t 1 sections 0 0 d → VerdictRight s t d
+  says-right : {d : Agreement} → Says max_snapshot_bytes s t 1 sections 0 0 d → VerdictRight s t d
   says-right (same e) = record { compatible = (λ _. record { long = ap length e; bytes = λ i _. ap (λ (l : List ℕ). get_or l i 0) e }, λ _. refl); otherwise = λ n. absurd (n refl) }
-  says-right (differ {n = n} {p = p} {e = e} {j = j} i k x) = record {
-    compatible = (λ h. no_difference (sym h), λ q. absurd (x.apart (ap (λ (l : List ℕ). get_or l x.first 0) (ext_get_or 0 s t q.long q.bytes))));
-    otherwise = λ _. record { section = n; part = p; entry = e; inner = j; is = refl; named = named k x };
+  says-right (differ {d = d} i k x) = record {
+    compatible = (λ h. cc, λ q. absurd (x.apart (ap (λ (l : List ℕ). get_or l x.first 0) (ext_get_or 0 s t q.long q.bytes))));
+    otherwise = λ _. record { difference = d; is = refl; named = named k x };
   }
 
 -- a manifest that was read to the end of the bytes is what they spell, in its sections

@@ -10,7 +10,6 @@ use borrow.Author.Tests.{eqb-true}
 use Rattle.text.proofs.Blocks.{both}
 use Rattle.state.specs.Bytes.{AreBytes}
 use Rattle.state.specs.Outcome.{got}
-use Rattle.state.specs.declared.Verdict.TheVariants.{Differs}
 use Rattle.state_wire.specs.Fields.{max_snapshot_bytes}
 use Rattle.format.specs.Format.{El, text, number, tag, encode}
 use Rattle.format.specs.Keys.{block_key, connector_key, owner, direction, port_index}
@@ -27,10 +26,15 @@ use Rattle.questions.proofs.Accepted.{passed-canonical, judge-tells, declaration
 use Rattle.questions.proofs.Ascends.{same-sets}
 use Rattle.questions.proofs.Ports.{port-so, Passes}
 use Rattle.questions.proofs.Impossible.{blocks-pass}
-use Rattle.verdict.specs.Verdict.{head_verdict, param_verdict, params_verdict, ports_verdict, block_verdict, entrywise, verdict}
+use Rattle.verdict.specs.Verdict.{Agreement, differs, head_verdict, param_verdict, params_verdict, ports_verdict, block_verdict, entrywise, verdict}
 use Rattle.verdict.proofs.Faithful.{or-both, field-finds}
 use Rattle.verdict.proofs.Words.{connectors-ascend}
-use Rattle.verdict.proofs.Reached.{reached, InPart, of, part_of, field-part, or-part, From, from-any, from_all, along-part}
+use Rattle.verdict.proofs.Gives.{Gives, of, given, field-gives, or-gives, From, from-any, from_all, along-gives}
+use Rattle.verdict.proofs.Reached.{reached}
+
+-- no difference, or one in a part of which G is so
+abbrev InPart : (G : ℕ → Type 0) → Agreement → Type 0
+InPart G = Gives (λ d. G d.part)
 
 -- ---- blocks
 -- neither part 9 nor part 11
@@ -50,11 +54,11 @@ module _ (k l : El block_key) (alike : encode block_key k ≡ encode block_key l
       rw (o, d, n)
 
   -- so only their counts can differ
-  ports-part : {G : ℕ → Type 0} (part i : ℕ) (ps qs : El connector_keys) → ports_hold k way 0 ps ≡ true → ports_hold l way 0 qs ≡ true → G (part + 1)
-      → InPart G (ports_verdict part i ps qs)
+  ports-part : (part i : ℕ) (ps qs : El connector_keys) → ports_hold k way 0 ps ≡ true → ports_hold l way 0 qs ≡ true → Other (part + 1)
+      → InPart Other (ports_verdict part i ps qs)
   unfolding connector_keys ports_verdict ports_hold
   ports-part part i ps qs h h' g =
-      along-part (λ j p q a b. field-part connector_key p.0 q.0 (λ n. absurd (n (ports-alike j p.0 q.0 a b)))) 0 ps qs (each k 0 ps h) (each l 0 qs h') (λ _ _. of g)
+      along-gives (λ j p q a b. field-gives connector_key p.0 q.0 (λ n. absurd (n (ports-alike j p.0 q.0 a b)))) 0 ps qs (each k 0 ps h) (each l 0 qs h') (λ _ _. of g)
     where
       -- 14 says yes to each at its place
       each : (b : El block_key) (j : ℕ) (ps : El connector_keys) → ports_hold b way j ps ≡ true → From (λ j p. port_holds b way j p.0 ≡ true) j ps
@@ -65,34 +69,34 @@ module _ (k l : El block_key) (alike : encode block_key k ≡ encode block_key l
 head-part : (i : ℕ) (a b : Entry blocks) → InPart Other (head_verdict i a b)
 unfolding head_verdict
 head-part i a b =
-    or-part (field-part block_key _ _ (λ _. of refl)) (λ _.
-    or-part (field-part text _ _ (λ _. of refl)) (λ _.
-    or-part (field-part (tag 2) _ _ (λ _. of refl)) (λ _.
-    or-part (field-part (number 4) _ _ (λ _. of refl)) (λ _.
-    field-part (number 8) _ _ (λ _. of refl)))))
+    or-gives (field-gives block_key _ _ (λ _. of refl)) (λ _.
+    or-gives (field-gives text _ _ (λ _. of refl)) (λ _.
+    or-gives (field-gives (tag 2) _ _ (λ _. of refl)) (λ _.
+    or-gives (field-gives (number 4) _ _ (λ _. of refl)) (λ _.
+    field-gives (number 8) _ _ (λ _. of refl)))))
 
 -- its parameters 6 to 8
 params-part : (i : ℕ) (ps qs : El params) → InPart Other (params_verdict i ps qs)
 unfolding params params_verdict param_verdict
 params-part i ps qs =
-    along-part (λ j p q _ _. or-part (field-part text _ _ (λ _. of refl)) (λ _. field-part value _ _ (λ _. of refl)))
+    along-gives (λ j p q _ _. or-gives (field-gives text _ _ (λ _. of refl)) (λ _. field-gives value _ _ (λ _. of refl)))
     0 ps qs (from-any 0 ps) (from-any 0 qs) (λ _ _. of refl)
 
 -- where the ports of two blocks are compared, the blocks have one key
 block-part : (i : ℕ) (a b : Entry blocks) → Passes a → Passes b → InPart Other (block_verdict i a b)
 unfolding block_verdict head_verdict
 block-part i a b s s' =
-    or-part (head-part i a b) (λ h.
+    or-gives (head-part i a b) (λ h.
     let k : encode block_key (block_key_of a) ≡ encode block_key (block_key_of b) = (field-finds 3 block_key 1 i 0).alike (block_key_of a) (block_key_of b) (or-both _ _ h).0 in
-    or-part (params-part i (params_of a) (params_of b)) (λ _.
-    or-part (ports-part _ _ k 0 9 i (inputs a) (inputs b) s.ins-hold s'.ins-hold refl) (λ _.
+    or-gives (params-part i (params_of a) (params_of b)) (λ _.
+    or-gives (ports-part _ _ k 0 9 i (inputs a) (inputs b) s.ins-hold s'.ins-hold refl) (λ _.
     ports-part _ _ k 1 11 i (outputs a) (outputs b) s.outs-hold s'.outs-hold refl)))
 
 -- ---- whole entries
 -- lists of one length never differ in their count
 entries-part : (k : ℕ) (e : Section) (xs ys : List (Entry e)) → length xs ≡ length ys → InPart (λ p. p ≡ 0) ((entrywise k e).compare xs ys)
 entries-part k e xs ys h =
-    along-part (λ i x y _ _. field-part (entry e) x y (λ _. of refl)) 0 xs ys (from-any 0 xs) (from-any 0 ys) (λ n. absurd (n h))
+    along-gives (λ i x y _ _. field-gives (entry e) x y (λ _. of refl)) 0 xs ys (from-any 0 xs) (from-any 0 ys) (λ n. absurd (n h))
 
 -- ---- a manifest for which every question says yes
 -- the format admits it (3 to 9), and none of 11 to 32 fails
@@ -130,29 +134,29 @@ module _ {m : El manifest} (a : AllYes m) where
 -- ---- two such manifests
 module _ {m m' : El manifest} (a : AllYes m) (a' : AllYes m') where
   -- blocks are never said to differ in an input (part 9) or an output (part 11), only in how many there are
-  pub ports-agree : {p e i : ℕ} → verdict m m' ≡ Differs 3 p e i → (p ≡ 9 → ⊥) × (p ≡ 11 → ⊥)
+  pub ports-agree : {p e i : ℕ} → verdict m m' ≡ differs 3 p e i → (p ≡ 9 → ⊥) × (p ≡ 11 → ⊥)
   unfolding verdict manifest blocks_of
   ports-agree {p} d =
       let r = reached 2 m m' a.holds a'.holds d in
-      let o : Other p = part_of (subst (InPart Other) r.1.1 (along-part block-part 0 (blocks_of m) (blocks_of m') (blocks-each a) (blocks-each a') (λ _ _. of refl))) in
+      let o : Other p = given (subst (InPart Other) r.1.1 (along-gives block-part 0 (blocks_of m) (blocks_of m') (blocks-each a) (blocks-each a') (λ _ _. of refl))) in
       (λ z. false≢true (subst Other z o), λ z. false≢true (subst Other z o))
 
   -- connectors are never said to be more or fewer
-  pub connectors-as-many : {p e i : ℕ} → verdict m m' ≡ Differs 4 p e i → p ≡ 0
+  pub connectors-as-many : {p e i : ℕ} → verdict m m' ≡ differs 4 p e i → p ≡ 0
   unfolding verdict manifest blocks_of connectors_of connector_names
   connectors-as-many d =
       let r = reached 3 m m' a.holds a'.holds d in
       let b : blocks_of m ≡ blocks_of m' = r.1.1.0 in
       let n : connector_names (connectors_of m) ≡ connector_names (connectors_of m') =
       same-sets _ _ (gather block_ports (blocks_of m)) (connectors-ascend m a.holds) (connectors-ascend m' a'.holds) (ports-are a) (rw b (ports-are a')) in
-      part_of (subst (InPart (λ p. p ≡ 0)) r.1.1.1 (entries-part 4 connectors (connectors_of m) (connectors_of m') (simp length-map at (ap length n))))
+      given (subst (InPart (λ p. p ≡ 0)) r.1.1.1 (entries-part 4 connectors (connectors_of m) (connectors_of m') (simp length-map at (ap length n))))
 
   -- nor are input definitions
-  pub definitions-as-many : {p e i : ℕ} → verdict m m' ≡ Differs 12 p e i → p ≡ 0
+  pub definitions-as-many : {p e i : ℕ} → verdict m m' ≡ differs 12 p e i → p ≡ 0
   unfolding verdict manifest connectors_of external_inputs_of input_definitions_of
   definitions-as-many d =
       let r = reached 11 m m' a.holds a'.holds d in
       let c : connectors_of m ≡ connectors_of m' = r.1.1.1.0 in
       let x : external_inputs_of m ≡ external_inputs_of m' = r.1.1.1.1.1.1.1.1.1.0 in
       let l : length (input_definitions_of m) ≡ length (input_definitions_of m') = definitions-are a ∙ rw (c, x) (sym (definitions-are a')) in
-      part_of (subst (InPart (λ p. p ≡ 0)) r.1.1.1.1.1.1.1.1.1.1.1 (entries-part 12 input_definitions (input_definitions_of m) (input_definitions_of m') l))
+      given (subst (InPart (λ p. p ≡ 0)) r.1.1.1.1.1.1.1.1.1.1.1 (entries-part 12 input_definitions (input_definitions_of m) (input_definitions_of m') l))

@@ -61,8 +61,8 @@ same-lengths : (bs ks : List (Entry blocks)) (es : List (Entry state_slots)) →
     → All (λ e. slot_answer bs e ≡ 0) es → map slot_length es ≡ map state_len ks
 unfolding slot_answer
 same-lengths bs [] [] a n h = refl
-same-lengths bs [] (e ∷ es) a n h = let z : ◌≡◌ {A = ℕ} 0 1 = cc in absurd (omega arith)
-same-lengths bs (b ∷ ks) [] a n h = let z : ◌≡◌ {A = ℕ} 0 1 = cc in absurd (omega arith)
+same-lengths bs [] (e ∷ es) a n h = cc
+same-lengths bs (b ∷ ks) [] a n h = cc
 same-lengths bs (b ∷ ks) (e ∷ es) a n h =
     let l : length_is bs e ≡ true = unless-none 21 (length_is bs e) (first-none _ _ h.0).0 in
     rw (eqb-true (slot_length e) (state_len b) (sym (length-is bs b e a.0 (cc)) ∙ l), same-lengths bs ks es a.1 (cc) h.1)

@@ -1,12 +1,11 @@
 -- Demand 3, sentence by sentence: of the bytes of a snapshot's manifest and a target's, each accepted, and of the verdict on them; and of the
 -- slots of an accepted manifest. proofs/Demand3.antt proves it of the calls' answers, and the calls promise it.
-use Rattle.std.specs.Prelude.{ℕ, ◌+◌, ◌≤◌, ◌<◌, ◌≡◌, ◌↔◌, List, map, length, get_or, take}
+use Rattle.std.specs.Prelude.{ℕ, ◌+◌, ◌≤◌, ◌<◌, ◌≡◌, ◌↔◌, Result, Ok, Err, IsOk, IsOkAnd, List, map, length, get_or, take}
 use Rattle.state.specs.Outcome.{got}
-use Rattle.state.specs.declared.Answer.TheVariants.{Accepted}
+use Rattle.state.specs.declared.Difference.{Difference}
+use Rattle.state.specs.declared.Refusal.{Refusal}
+use Rattle.state.specs.declared.Side.{Side}
 use Rattle.state.specs.declared.Units.{Units}
-use Rattle.state.specs.declared.Units.TheVariants.{Of}
-use Rattle.state.specs.declared.Verdict.{Verdict}
-use Rattle.state.specs.declared.Verdict.TheVariants.{Compatible, Differs}
 use Rattle.state_wire.specs.Fields.{max_snapshot_bytes}
 use Rattle.format.specs.Format.{El}
 use Rattle.format.specs.Manifest.{manifest}
@@ -17,6 +16,7 @@ use Rattle.questions.specs.Declarations.{is_stateful}
 use Rattle.questions.specs.Slots.{words}
 use Rattle.questions.specs.Answers.{judge, decode_manifest}
 use Rattle.questions.specs.Units.{word_total}
+use Rattle.verdict.specs.Verdict.{Agreement}
 
 -- ---- the verdict
 -- "equal in length and in every byte"
@@ -40,24 +40,21 @@ pub record Named (s t : List ℕ) (k : ℕ) : Type 0 where
   pub in-target : first < section_end max_snapshot_bytes k t
 
 -- a verdict that names a section
-pub record Differing (s t : List ℕ) (v : Verdict) : Type 0 where
-  pub section : ℕ
-  pub part : ℕ
-  pub entry : ℕ
-  pub inner : ℕ
-  pub is : v ≡ Differs section part entry inner
-  pub named : Named s t section
+pub record Differing (s t : List ℕ) (v : Agreement) : Type 0 where
+  pub difference : Difference
+  pub is : v ≡ Err difference
+  pub named : Named s t difference.section
 
 -- "the verdict is compatible exactly when the two are equal in length and in every byte. Otherwise .."
-pub record VerdictRight (s t : List ℕ) (v : Verdict) : Type 0 where
-  pub compatible : v ≡ Compatible ↔ Equal s t
-  pub otherwise : (v ≡ Compatible → ⊥) → Differing s t v
+pub record VerdictRight (s t : List ℕ) (v : Agreement) : Type 0 where
+  pub compatible : v ≡ Ok tt ↔ Equal s t
+  pub otherwise : (v ≡ Ok tt → ⊥) → Differing s t v
 
 -- what `compare_manifests` promises of its answer: "For every snapshot's manifest and every target's, each accepted, whatever their bases and
 -- revisions"
-abbrev pub VerdictDemand : (bound : List (List ℕ)) → (s : List ℕ) (base revision : ℕ) (index : List ℕ) → (t : List ℕ) (base' revision' : ℕ) (index' : List ℕ) → Verdict → Type 0
-VerdictDemand bound s base revision index t base' revision' index' v =
-    (decode_manifest bound s base revision index).answer ≡ Accepted → (decode_manifest bound t base' revision' index').answer ≡ Accepted → VerdictRight s t v
+abbrev pub VerdictDemand : (bound : List (List ℕ)) → (s : List ℕ) (base revision : ℕ) (index : List ℕ) → (t : List ℕ) (base' revision' : ℕ) (index' : List ℕ) → Result Agreement Side → Type 0
+VerdictDemand bound s base revision index t base' revision' index' r =
+    IsOk (decode_manifest bound s base revision index) → IsOk (decode_manifest bound t base' revision' index') → IsOkAnd r (VerdictRight s t)
 
 -- ---- the words
 -- "A slot holds the state words from its offset on, as many as its length"
@@ -84,6 +81,6 @@ pub record WordsHeld (m : El manifest) : Type 0 where
   pub total : word_total (slots_of m) ≡ state_words m
 
 -- what `units` promises of its answer: "In each accepted manifest", m as it was read
-abbrev pub WordsDemand : (bound : List (List ℕ)) → (s : List ℕ) (revision : ℕ) (index : List ℕ) → Units → Type 0
+abbrev pub WordsDemand : (bound : List (List ℕ)) → (s : List ℕ) (revision : ℕ) (index : List ℕ) → Result Units (Refusal ℕ) → Type 0
 WordsDemand bound s revision index r =
-    (m : El manifest) (n : ℕ) → judge bound revision s (length index) ≡ got m n → WordsHeld m × ((total units : ℕ) → r ≡ Of total units → total ≡ state_words m)
+    (m : El manifest) (n : ℕ) → judge bound revision s (length index) ≡ got m n → WordsHeld m × ((u : Units) → r ≡ Ok u → u.words ≡ state_words m)
