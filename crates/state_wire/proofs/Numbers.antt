@@ -28,6 +28,6 @@ eight l h =
     let w : span l 0 8 ≡ l = take_all 8 l (omega arith) in
     omega (arith, ap number_of w, n 0 (omega arith), n 1 (omega arith), n 2 (omega arith), n 3 (omega arith), n 4 (omega arith), n 5 (omega arith), n 6 (omega arith), n 7 (omega arith), number-none l 8)
 
-pub number-wide : (w : ℕ) (x : List ℕ) → length x ≡ w → w ≤ 8 → from_le_bytes w64 (x ++ drop w (replicate 8 0)) ≡ number_of x
-number-wide w x h k =
+pub number_wide : (w : ℕ) (x : List ℕ) → length x ≡ w → w ≤ 8 → from_le_bytes w64 (x ++ drop w (replicate 8 0)) ≡ number_of x
+number_wide w x h k =
     eight (x ++ drop w (replicate 8 0)) (simp (length-append, length-drop) (omega arith)) ∙ padded x (drop w (replicate 8 0)) (zeros 8 w)

@@ -44,6 +44,7 @@ pub fn take(s: &[u8], at: usize, n: usize) -> Step
 }
 
 // The number that W bytes spell at a position that has them: one load where W is 4 or 8.
+#[tactic(auto, using(crate::proofs::Numbers::number_wide))]
 pub fn number_at<const W: usize>(s: &[u8], at: usize) -> u64
     requires fits { at + W ≤ length s.now }
     requires width { W ≤ 8 }
