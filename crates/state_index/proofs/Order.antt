@@ -5,8 +5,8 @@ use mathlib.Core.Path.{◌≡◌, refl, sym, subst, ◌∙◌}
 use mathlib.Core.Bool.{Bool, true, false, not}
 use mathlib.Core.List.{List}
 use Rattle.std.specs.Ordering.{is_lt}
-use Rattle.order.specs.declared.Order.{Order}
-use Rattle.order.specs.declared.Order.TheVariants.{Less, Equal, Greater}
+use Rattle.std.specs.declared.cmp.Ordering.{Ordering}
+use Rattle.std.specs.declared.cmp.Ordering.TheVariants.{Less, Equal, Greater}
 use Rattle.order.specs.Lex.{lex_compare}
 use Rattle.order.proofs.Laws.{lex-turned, lex-refl, lex-equal-iff, lex-trans}
 use Rattle.format.specs.Lists.{before, same}
@@ -22,7 +22,7 @@ is_false false h = refl
 abbrev pub leq : List ℕ → List ℕ → Bool
 leq x y = not (before y x)
 
-less-is : (o : Order) → not (is_lt o) ≡ false → o ≡ Less
+less-is : (o : Ordering) → not (is_lt o) ≡ false → o ≡ Less
 less-is Less e = refl
 less-is Equal e = apart e
 less-is Greater e = apart e
@@ -43,7 +43,7 @@ module _ (x y : List ℕ) where
   pub leq-antisym : leq x y ≡ true → leq y x ≡ true → x ≡ y
   leq-antisym p q = go (lex_compare x y) refl
     where
-      go : (o : Order) → lex_compare x y ≡ o → x ≡ y
+      go : (o : Ordering) → lex_compare x y ≡ o → x ≡ y
       go Less h = apart (sym q ∙ less-not-leq h)
       go Equal h = (lex-equal-iff x y).0 h
       go Greater h = apart (sym p ∙ rw (lex-turned x y, h))
@@ -55,7 +55,7 @@ leq-refl x = rw (lex-refl x)
 pub less_then : (x y z : List ℕ) → lex_compare x y ≡ Less → leq y z ≡ true → lex_compare x z ≡ Less
 less_then x y z p q = go (lex_compare y z) refl
   where
-    go : (o : Order) → lex_compare y z ≡ o → lex_compare x z ≡ Less
+    go : (o : Ordering) → lex_compare y z ≡ o → lex_compare x z ≡ Less
     go Less h = lex-trans x y z p h
     go Equal h = subst (λ (w : List ℕ). lex_compare x w ≡ Less) ((lex-equal-iff y z).0 h) p
     go Greater h = apart (sym q ∙ rw (lex-turned y z, h))
@@ -64,7 +64,7 @@ less_then x y z p q = go (lex_compare y z) refl
 pub then_less : (x y z : List ℕ) → leq x y ≡ true → lex_compare y z ≡ Less → lex_compare x z ≡ Less
 then_less x y z p q = go (lex_compare x y) refl
   where
-    go : (o : Order) → lex_compare x y ≡ o → lex_compare x z ≡ Less
+    go : (o : Ordering) → lex_compare x y ≡ o → lex_compare x z ≡ Less
     go Less h = lex-trans x y z h q
     go Equal h = subst (λ (w : List ℕ). lex_compare w z ≡ Less) (sym ((lex-equal-iff x y).0 h)) q
     go Greater h = apart (sym p ∙ rw (lex-turned x y, h))
@@ -72,7 +72,7 @@ then_less x y z p q = go (lex_compare x y) refl
 pub leq-trans : (x y z : List ℕ) → leq x y ≡ true → leq y z ≡ true → leq x z ≡ true
 leq-trans x y z p q = go (lex_compare z x) refl
   where
-    go : (o : Order) → lex_compare z x ≡ o → leq x z ≡ true
+    go : (o : Ordering) → lex_compare z x ≡ o → leq x z ≡ true
     go Less h = apart (sym q ∙ less-not-leq z y (less_then z x y h p))
     go Equal h = rw h
     go Greater h = rw h

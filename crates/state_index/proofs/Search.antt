@@ -9,8 +9,8 @@ use lib.Seq.{get_or-take, get_or-drop}
 use native.Mathlib.Decide.{dec_lt}
 use Rattle.state.specs.Bytes.{span}
 use Rattle.state.proofs.Bytes.{span-length}
-use Rattle.order.specs.declared.Order.{Order}
-use Rattle.order.specs.declared.Order.TheVariants.{Less, Equal, Greater}
+use Rattle.std.specs.declared.cmp.Ordering.{Ordering}
+use Rattle.std.specs.declared.cmp.Ordering.TheVariants.{Less, Equal, Greater}
 use Rattle.order.specs.declared.Compared.{Compared}
 use Rattle.order.specs.Lex.{lex_compare, compared}
 use Rattle.order.proofs.Laws.{turned, lex-turned, lex-equal-iff}
@@ -18,7 +18,7 @@ use Rattle.format.specs.Lists.{same, is_in}
 use Rattle.format.proofs.Lists.{same_true}
 use Rattle.format.specs.Manifest.{Section}
 use Rattle.format.specs.Places.{key_at}
-use Rattle.state_index.specs.declared.Found.TheVariants.{At, Nothing}
+use Rattle.std.specs.Prelude.{Some, None}
 use Rattle.state_index.specs.Sort.{Below, Ordered}
 use Rattle.state_index.specs.Find.{key_at_most, Finds}
 use Rattle.state_index.proofs.Order.{leq, less_then, then_less, less-not-same, greater-not-same}
@@ -48,7 +48,7 @@ not_in key f [] h = refl
 not_in key f (x ∷ l) h = rw (h zero (omega arith)) (not_in key f l (λ i k. h (suc i) (omega arith)))
 
 -- what was compared with the entry of a word
-pub compared-with : (e : Section) (s index key : List ℕ) (w : ℕ) {p : ℕ} {x : List ℕ} {c : Compared} {o : Order}
+pub compared-with : (e : Section) (s index key : List ℕ) (w : ℕ) {p : ℕ} {x : List ℕ} {c : Compared} {o : Ordering}
     → p ≡ get_or index w 0 → x ≡ key_at e s p → c ≡ compared key x → c.order ≡ o → lex_compare key (key_at e s (get_or index w 0)) ≡ o
 compared-with e s index key w i j k l = rw (← i, ← j, ← l, k)
 
@@ -73,18 +73,18 @@ module _ (e : Section) (s index : List ℕ) (from to : ℕ) (key : List ℕ) whe
   between-all = record { least = omega arith; most = omega arith; below = λ j h i. absurd (omega arith); above = λ j h i. absurd (omega arith) }
 
   -- a word whose entry has the key, by whatever way it was come by
-  pub finds-key : {w : ℕ} → (from ≤ w) × (w < to) × (of w ≡ key) → Finds e s index from to key (At w)
+  pub finds-key : {w : ℕ} → (from ≤ w) × (w < to) × (of w ≡ key) → Finds e s index from to key (Some w)
   finds-key {w} h = record {
     at = λ v i. let j : w ≡ v = cc in rw (← j) h;
-    nothing = λ i. let z : ◌≡◌ {A = ℕ} 0 1 = cc in absurd (omega arith);
+    nothing = λ i. cc;
   }
 
-  pub finds-at : {w : ℕ} → from ≤ w → w < to → lex_compare key (of w) ≡ Equal → Finds e s index from to key (At w)
+  pub finds-at : {w : ℕ} → from ≤ w → w < to → lex_compare key (of w) ≡ Equal → Finds e s index from to key (Some w)
   finds-at {w} h k q = finds-key (h, k, sym ((lex-equal-iff key (of w)).0 q))
 
-  pub finds-nothing : {low high : ℕ} → Between low high → high ≤ low → Finds e s index from to key Nothing
+  pub finds-nothing : {low high : ℕ} → Between low high → high ≤ low → Finds e s index from to key None
   finds-nothing {low} {high} b h = record {
-    at = λ v i. let z : ◌≡◌ {A = ℕ} 0 1 = cc in absurd (omega arith);
+    at = λ v i. cc;
     nothing = λ i. not_in key (key_at e s) (span index from to) none;
   }
     where

@@ -1,12 +1,12 @@
 // Hints: where a key's entry may stand, in words at the end of the index, four for each word of its table. They decide nothing: a word that
 // stands there is taken only if its entry has the key, so a hint that is wrong or gone costs a search and no more.
-ghost use Rattle.std.specs.Prelude.{◌≡◌, true, ◌+◌, ◌*◌, ◌-◌, ◌≤◌, ◌<◌, length, get_or};
+ghost use Rattle.std.specs.Prelude.{◌≡◌, true, IfSome, ◌+◌, ◌*◌, ◌-◌, ◌≤◌, ◌<◌, length, get_or};
 ghost use Rattle.format.specs.Manifest.{numbered};
 ghost use Rattle.format.specs.Places.{key_at};
 
 use super::keys::number_at;
 use super::sift::mix;
-use super::{key_part, word_at};
+use super::{Table, key_part, word_at};
 use state_key_order::same_bytes;
 
 // A number, and the eight bytes at a position.
@@ -64,50 +64,30 @@ pub fn hints_of(index: &[u32], from: usize, to: usize, key: &[u8]) -> usize
     index.len() - 4 * to + (hash(key) / 16777216) as usize % slots
 }
 
-// Only yes promises something: w is of the words from..to, and its entry has the key.
-pub(crate) fn has_key(
-    s: &[u8],
-    section: u8,
-    index: &[u32],
-    from: usize,
-    to: usize,
-    key: &[u8],
-    w: usize,
-) -> bool
-    requires { to ≤ length index.now }
-    ensures { result ≡ true → (from ≤ w) × (w < to) × (key_at (numbered section) s.now (get_or index.now w 0) ≡ key.now) }
+// Only yes promises something: w is of the table, and its entry has the key.
+pub(crate) fn has_key(s: &[u8], table: Table, index: &[u32], key: &[u8], w: usize) -> bool
+    requires { table.to ≤ length index.now }
+    ensures { result ≡ true → (table.from ≤ w) × (w < table.to) × (key_at (numbered table.section) s.now (get_or index.now w 0) ≡ key.now) }
 {
-    if w < from {
+    if w < table.from || table.to <= w {
         return false;
     }
-    if to <= w {
-        return false;
-    }
-    same_bytes(key_part(s, section, word_at(index, w)), key)
+    same_bytes(key_part(s, table.section, word_at(index, w)), key)
 }
 
-// A word of from..to that the hints name and whose entry has the key; or `to`.
-pub(crate) fn find_hinted(
-    s: &[u8],
-    section: u8,
-    index: &[u32],
-    from: usize,
-    to: usize,
-    key: &[u8],
-) -> usize
-    requires { to ≤ length index.now }
-    ensures { result < to → (from ≤ result) × (key_at (numbered section) s.now (get_or index.now result 0) ≡ key.now) }
+// A word of the table that the hints name and whose entry has the key.
+pub(crate) fn find_hinted(s: &[u8], table: Table, index: &[u32], key: &[u8]) -> Option<usize>
+    requires { table.to ≤ length index.now }
+    ensures { IfSome result (λ w. (table.from ≤ w) × (w < table.to) × (key_at (numbered table.section) s.now (get_or index.now w 0) ≡ key.now)) }
 {
-    if has_hints(index, from, to) {
-        let mut i = hints_of(index, from, to, key);
-        let end = i + 4;
-        while i < end {
+    if has_hints(index, table.from, table.to) {
+        let first = hints_of(index, table.from, table.to, key);
+        for i in first..first + 4 {
             let w = word_at(index, i);
-            if has_key(s, section, index, from, to, key, w) {
-                return w;
+            if has_key(s, table, index, key, w) {
+                return Some(w);
             }
-            i += 1;
         }
     }
-    to
+    None
 }

@@ -5,7 +5,7 @@ ghost use Rattle.format.specs.Places.{number_at, past};
 
 use super::{ahead, text_end};
 use state::BlockKey;
-use state_wire::{remaining, u32_at, u64_at};
+use state_wire::remaining;
 
 // The byte at a position; 0 past the end.
 pub fn byte_at(s: &[u8], at: usize) -> u8
@@ -21,7 +21,7 @@ pub fn count_at(s: &[u8], at: usize) -> usize
     if remaining(s, at) < 4 {
         0
     } else {
-        u32_at(s, at) as usize
+        state_wire::number_at::<4>(s, at) as usize
     }
 }
 
@@ -32,7 +32,7 @@ pub fn number_at(s: &[u8], at: usize) -> u64
     if remaining(s, at) < 8 {
         0
     } else {
-        u64_at(s, at)
+        state_wire::number_at::<8>(s, at)
     }
 }
 

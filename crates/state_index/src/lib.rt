@@ -19,28 +19,26 @@ ghost use Rattle.state_index.specs.Find.{key_at_most, Finds};
 use hints::{find_hinted, has_key};
 use keys::{block_key_end, connector_key_end};
 use merge::{rising, sort_all};
-use order::Order;
 use sift::different;
 use state::Section;
-use state_wire::{part, remaining, u32_at};
+use state_wire::{number_at, part, remaining};
+use std::cmp::Ordering;
 
 // What positions are sorted by.
-#[derive(Clone, Copy)]
-pub struct SortKey(pub u8);
-
-impl SortKey {
+#[derive(Clone, Copy, PartialEq, Eq)]
+pub enum SortKey {
     // The text of the string there.
-    pub const TEXT: u8 = 0;
-
+    Text,
     // The number of the eight bytes there.
-    pub const NUMBER: u8 = 1;
+    Number,
 }
 
-// Where a key was found: the word of its entry.
+// A section's table: the words from..to of the index, which say where its entries start.
 #[derive(Clone, Copy)]
-pub enum Found {
-    At(usize),
-    Nothing,
+pub struct Table {
+    pub section: u8,
+    pub from: usize,
+    pub to: usize,
 }
 
 // Sets the words from..to to x.
@@ -82,7 +80,7 @@ pub fn text_end(s: &[u8], at: usize) -> usize
     if left < 4 {
         return s.len();
     }
-    ahead(s, at + 4, u32_at(s, at) as usize)
+    ahead(s, at + 4, number_at::<4>(s, at) as usize)
 }
 
 // The text of the string at a position.
@@ -93,7 +91,7 @@ pub fn text_part(s: &[u8], at: usize) -> &[u8]
 }
 
 // Sorts the `count` words from `from` on; as many words behind them are room.
-pub fn sort(s: &[u8], kind: u8, index: &mut [u32], from: usize, count: usize)
+pub fn sort(s: &[u8], kind: SortKey, index: &mut [u32], from: usize, count: usize)
     requires { from + count + count ≤ length index.old }
     ensures { SortedIn (at_most kind s.now) from count index.old index.new }
 {
@@ -109,7 +107,7 @@ pub fn all_distinct(s: &[u8], index: &mut [u32], from: usize, count: usize) -> b
     ensures kept { Kept from (from + count + count) index.old index.new }
 {
     let to = from + count;
-    if rising(s, SortKey::TEXT, index, from, to) {
+    if rising(s, SortKey::Text, index, from, to) {
         return true;
     }
     let end = to + count;
@@ -152,48 +150,40 @@ pub fn word_at(index: &[u32], i: usize) -> usize
     index[i] as usize
 }
 
-// Halves the words from..to, whose entries stand in order, until it has the key's or none is left.
-fn binary_search(s: &[u8], section: u8, index: &[u32], from: usize, to: usize, key: &[u8]) -> Found
-    requires to_in_bounds { to ≤ length index.now }
-    requires ordered { Ordered (key_at_most (numbered section) s.now) (span index.now from to) }
-    ensures { Finds (numbered section) s.now index.now from to key.now result }
-{
-    let mut low = from;
-    let mut high = to;
-    while low < high {
-        let w = low + (high - low) / 2;
-        let c = order::compare(key, key_part(s, section, word_at(index, w)));
-        let order = c.order;
-        match order {
-            Order::Less => high = w,
-            Order::Equal => return Found::At(w),
-            Order::Greater => low = w + 1,
+impl Table {
+    // Halves the table, whose entries stand in order, until it has the key's word or none is left.
+    fn binary_search(self, s: &[u8], index: &[u32], key: &[u8]) -> Option<usize>
+        requires to_in_bounds { self.to ≤ length index.now }
+        requires ordered { Ordered (key_at_most (numbered self.section) s.now) (span index.now self.from self.to) }
+        ensures { Finds (numbered self.section) s.now index.now self.from self.to key.now result }
+    {
+        let mut low = self.from;
+        let mut high = self.to;
+        while low < high {
+            let w = low + (high - low) / 2;
+            let c = order::compare(key, key_part(s, self.section, word_at(index, w)));
+            match c.order {
+                Ordering::Less => high = w,
+                Ordering::Equal => return Some(w),
+                Ordering::Greater => low = w + 1,
+            }
         }
+        None
     }
-    Found::Nothing
-}
 
-// Which of the words from..to, whose entries stand in order, has the key: the word `hint` is tried first, then those that the hints at the
-// end of the index name, and then all are searched.
-pub fn find(
-    s: &[u8],
-    section: u8,
-    index: &[u32],
-    from: usize,
-    to: usize,
-    key: &[u8],
-    hint: usize,
-) -> Found
-    requires to_in_bounds { to ≤ length index.now }
-    requires ordered { Ordered (key_at_most (numbered section) s.now) (span index.now from to) }
-    ensures { Finds (numbered section) s.now index.now from to key.now result }
-{
-    if has_key(s, section, index, from, to, key, hint) {
-        return Found::At(hint);
+    // The word of the table, whose entries stand in order, that has the key: the word `hint` is tried first, then those that the hints at the
+    // end of the index name, and then all are searched.
+    pub fn find(self, s: &[u8], index: &[u32], key: &[u8], hint: usize) -> Option<usize>
+        requires to_in_bounds { self.to ≤ length index.now }
+        requires ordered { Ordered (key_at_most (numbered self.section) s.now) (span index.now self.from self.to) }
+        ensures { Finds (numbered self.section) s.now index.now self.from self.to key.now result }
+    {
+        if has_key(s, self, index, key, hint) {
+            return Some(hint);
+        }
+        if let Some(w) = find_hinted(s, self, index, key) {
+            return Some(w);
+        }
+        self.binary_search(s, index, key)
     }
-    let w = find_hinted(s, section, index, from, to, key);
-    if w < to {
-        return Found::At(w);
-    }
-    binary_search(s, section, index, from, to, key)
 }

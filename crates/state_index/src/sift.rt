@@ -112,6 +112,6 @@ pub(crate) fn different(s: &[u8], w: &mut [u32], n: usize) -> bool
     if last == left {
         return false;
     }
-    sort(s, SortKey::TEXT, w, 0, last);
-    rising(s, SortKey::TEXT, w, 0, last)
+    sort(s, SortKey::Text, w, 0, last);
+    rising(s, SortKey::Text, w, 0, last)
 }

@@ -10,7 +10,7 @@ ghost use Rattle.state_key_order.specs.Compare.{block_keys_compared, connector_k
 
 use order::Compared;
 use state::{BlockKey, Refusal, Step, WireDir};
-use state_wire::{part, read_tag, read_u32, step_of, string};
+use state_wire::{part, read_number, read_tag, step_of, string};
 
 // Which of two keys is no whole one, with question and position.
 #[derive(Clone, Copy, PartialEq, Eq)]
@@ -67,7 +67,7 @@ pub fn read_connector_key(s: &[u8], at: usize) -> Step
     let Ok(n) = direction else {
         return direction;
     };
-    step_of(read_u32(s, n))
+    step_of(read_number::<4>(s, n))
 }
 
 // Two keys that were walked over, from at and from on.

@@ -6,4 +6,4 @@ pub returns-then-left-lt4 : goal.returns-then-left-lt4
 returns-then-left-lt4 c = text-short _ _ (omega arith)
 
 pub returns : goal.returns
-returns c = text-there _ _ c.u32_at.ensures c.ahead.ensures
+returns c = text-there _ _ c.number_at.ensures c.ahead.ensures

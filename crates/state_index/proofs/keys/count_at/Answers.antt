@@ -7,4 +7,4 @@ pub returns-then-remaining-lt4 : goal.returns-then-remaining-lt4
 returns-then-remaining-lt4 c = number_short _ _ 4 (omega arith)
 
 pub returns-else-remaining-lt4 : goal.returns-else-remaining-lt4
-returns-else-remaining-lt4 c = c.u32_at.ensures ∙ number-there _ _ 4 (omega arith)
+returns-else-remaining-lt4 c = c.number_at.ensures ∙ number-there _ _ 4 (omega arith)

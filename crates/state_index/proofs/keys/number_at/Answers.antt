@@ -7,4 +7,4 @@ pub returns-then-remaining-lt8 : goal.returns-then-remaining-lt8
 returns-then-remaining-lt8 c = number_short _ _ 8 (omega arith)
 
 pub returns-else-remaining-lt8 : goal.returns-else-remaining-lt8
-returns-else-remaining-lt8 c = c.u64_at.ensures ∙ number-there _ _ 8 (omega arith)
+returns-else-remaining-lt8 c = c.number_at.ensures ∙ number-there _ _ 8 (omega arith)

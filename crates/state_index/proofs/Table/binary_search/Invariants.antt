@@ -1,10 +1,10 @@
 use Rattle.state_index.proofs.Search.{Between}
 use Rattle.format.specs.Manifest.{numbered}
 use Prim.Native.Nat.{◌-◌}
-use Rattle.state_index.proofs.binary_search.Given as goal
+use Rattle.state_index.proofs.Table.binary_search.Given as goal
 
 abbrev pub invariant-loop-low : goal.invariant-loop-low
-invariant-loop-low l = Between (numbered l.section) l.s l.index l.from l.to l.key l.low l.high
+invariant-loop-low l = Between (numbered l.self.section) l.s l.index l.self.from l.self.to l.key l.low l.high
 
 abbrev pub decreases-loop-low : goal.decreases-loop-low
 decreases-loop-low l = l.high - l.low

@@ -1,6 +1,6 @@
 use Rattle.state_index.proofs.Search.{between-all, between-high, between-low, finds-at, finds-nothing, compared-with}
 use native.Mathlib.Omega.{arith}
-use Rattle.state_index.proofs.binary_search.Goals as goal
+use Rattle.state_index.proofs.Table.binary_search.Goals as goal
 
 pub loop-low-init : goal.loop-low-init
 loop-low-init c = between-all _ _ _ _ _ _
