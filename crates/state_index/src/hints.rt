@@ -65,26 +65,39 @@ pub fn hints_of(index: &[u32], from: usize, to: usize, key: &[u8]) -> usize
 }
 
 // Only yes promises something: w is of the table, and its entry has the key.
-pub(crate) fn has_key(s: &[u8], table: Table, index: &[u32], key: &[u8], w: usize) -> bool
+pub(crate) fn has_key(
+    s: &[u8],
+    section: u8,
+    index: &[u32],
+    table: Table,
+    key: &[u8],
+    w: usize,
+) -> bool
     requires { table.to ≤ length index.now }
-    ensures { result ≡ true → (table.from ≤ w) × (w < table.to) × (key_at (numbered table.section) s.now (get_or index.now w 0) ≡ key.now) }
+    ensures { result ≡ true → (table.from ≤ w) × (w < table.to) × (key_at (numbered section) s.now (get_or index.now w 0) ≡ key.now) }
 {
     if w < table.from || table.to <= w {
         return false;
     }
-    same_bytes(key_part(s, table.section, word_at(index, w)), key)
+    same_bytes(key_part(s, section, word_at(index, w)), key)
 }
 
 // A word of the table that the hints name and whose entry has the key.
-pub(crate) fn find_hinted(s: &[u8], table: Table, index: &[u32], key: &[u8]) -> Option<usize>
+pub(crate) fn find_hinted(
+    s: &[u8],
+    section: u8,
+    index: &[u32],
+    table: Table,
+    key: &[u8],
+) -> Option<usize>
     requires { table.to ≤ length index.now }
-    ensures { IfSome result (λ w. (table.from ≤ w) × (w < table.to) × (key_at (numbered table.section) s.now (get_or index.now w 0) ≡ key.now)) }
+    ensures { IfSome result (λ w. (table.from ≤ w) × (w < table.to) × (key_at (numbered section) s.now (get_or index.now w 0) ≡ key.now)) }
 {
     if has_hints(index, table.from, table.to) {
         let first = hints_of(index, table.from, table.to, key);
         for i in first..first + 4 {
             let w = word_at(index, i);
-            if has_key(s, table, index, key, w) {
+            if has_key(s, section, index, table, key, w) {
                 return Some(w);
             }
         }

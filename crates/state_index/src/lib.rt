@@ -33,10 +33,9 @@ pub enum SortKey {
     Number,
 }
 
-// A section's table: the words from..to of the index, which say where its entries start.
+// Where a section's table lies: the words from..to of the index, which say where its entries start.
 #[derive(Clone, Copy)]
 pub struct Table {
-    pub section: u8,
     pub from: usize,
     pub to: usize,
 }
@@ -152,16 +151,16 @@ pub fn word_at(index: &[u32], i: usize) -> usize
 
 impl Table {
     // Halves the table, whose entries stand in order, until it has the key's word or none is left.
-    fn binary_search(self, s: &[u8], index: &[u32], key: &[u8]) -> Option<usize>
+    fn binary_search(self, s: &[u8], section: u8, index: &[u32], key: &[u8]) -> Option<usize>
         requires to_in_bounds { self.to ≤ length index.now }
-        requires ordered { Ordered (key_at_most (numbered self.section) s.now) (span index.now self.from self.to) }
-        ensures { Finds (numbered self.section) s.now index.now self.from self.to key.now result }
+        requires ordered { Ordered (key_at_most (numbered section) s.now) (span index.now self.from self.to) }
+        ensures { Finds (numbered section) s.now index.now self.from self.to key.now result }
     {
         let mut low = self.from;
         let mut high = self.to;
         while low < high {
             let w = low + (high - low) / 2;
-            let c = order::compare(key, key_part(s, self.section, word_at(index, w)));
+            let c = order::compare(key, key_part(s, section, word_at(index, w)));
             match c.order {
                 Ordering::Less => high = w,
                 Ordering::Equal => return Some(w),
@@ -173,17 +172,24 @@ impl Table {
 
     // The word of the table, whose entries stand in order, that has the key: the word `hint` is tried first, then those that the hints at the
     // end of the index name, and then all are searched.
-    pub fn find(self, s: &[u8], index: &[u32], key: &[u8], hint: usize) -> Option<usize>
+    pub fn find(
+        self,
+        s: &[u8],
+        section: u8,
+        index: &[u32],
+        key: &[u8],
+        hint: usize,
+    ) -> Option<usize>
         requires to_in_bounds { self.to ≤ length index.now }
-        requires ordered { Ordered (key_at_most (numbered self.section) s.now) (span index.now self.from self.to) }
-        ensures { Finds (numbered self.section) s.now index.now self.from self.to key.now result }
+        requires ordered { Ordered (key_at_most (numbered section) s.now) (span index.now self.from self.to) }
+        ensures { Finds (numbered section) s.now index.now self.from self.to key.now result }
     {
-        if has_key(s, self, index, key, hint) {
+        if has_key(s, section, index, self, key, hint) {
             return Some(hint);
         }
-        if let Some(w) = find_hinted(s, self, index, key) {
+        if let Some(w) = find_hinted(s, section, index, self, key) {
             return Some(w);
         }
-        self.binary_search(s, index, key)
+        self.binary_search(s, section, index, key)
     }
 }
