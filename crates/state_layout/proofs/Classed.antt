@@ -7,6 +7,7 @@ use mathlib.Core.List.{List, [], ◌∷◌, map}
 use lib.ListN.{length, get_or, length-map}
 use lib.Dec.{ltb, leb}
 use borrow.Author.Tests.{le-ltb, lt-ltb}
+use Rattle.std.specs.Prelude.{Option, Some, None}
 use Rattle.state.specs.Bytes.{span}
 use Rattle.state.proofs.Bytes.{span-length}
 use Rattle.text.proofs.Blocks.{neither}
@@ -20,8 +21,6 @@ use Rattle.format.proofs.Lists.{same_refl, same-sym}
 use Rattle.format.proofs.Values.{values_length}
 use Rattle.questions.specs.Sets.{all, any}
 use Rattle.questions.specs.Declarations.{in_range, enum_holds}
-use Rattle.state_index.specs.declared.Found.{Found}
-use Rattle.state_index.specs.declared.Found.TheVariants.{At, Nothing}
 use Rattle.state_index.specs.Find.{Finds}
 use Rattle.state_index.proofs.Search.{span-get}
 use Rattle.state_layout.specs.Marks.{Keyed}
@@ -75,7 +74,7 @@ holds-any es v {c} {n} h k = rw (h, k) (and-true (any (λ e. same c (enum_path e
 
 -- the enum value at p of t, and what a search among the classes in s for its class's path found
 module _ {s index : List ℕ} {from to : ℕ} (t : List ℕ) (p : ℕ) (k : Keyed enums s index from to to) {tag : ℕ} (et : tag ≡ get_or t p 0) (ez : tag ≡ 4)
-    {start : ℕ} {class : List ℕ} {f : Found} (begins : start ≡ min (p + 1) (length t)) (reads : class ≡ value_at text t start)
+    {start : ℕ} {class : List ℕ} {f : Option ℕ} (begins : start ≡ min (p + 1) (length t)) (reads : class ≡ value_at text t start)
     (r : Finds (numbered 2) s index from to class f) where
   abbrev holds : Bool
   holds = enum_holds (classes_at s index from to) (value_at value t p)
@@ -90,12 +89,12 @@ module _ {s index : List ℕ} {from to : ℕ} (t : List ℕ) (p : ℕ) (k : Keye
       ∙ any-map (λ e. same class (enum_path e) && in_range (ordinal (value_at value t p)) e) (value_at (entry enums) s) (span index from to)
 
   -- its class is not listed
-  pub class-unlisted : f ≡ Nothing → false ≡ holds
+  pub class-unlisted : f ≡ None → false ≡ holds
   unfolding numbered
   class-unlisted n = sym (holds-is ∙ any_none class (key_at enums s) range_at (span index from to) (r.nothing n))
 
   -- the word of its class, and its ordinal n
-  module _ {w : ℕ} (i : f ≡ At w) {end n : ℕ} (ends : end ≡ past text t start) (is : n ≡ number_at 4 t end) where
+  module _ {w : ℕ} (i : f ≡ Some w) {end n : ℕ} (ends : end ≡ past text t start) (is : n ≡ number_at 4 t end) where
     found : (from ≤ w) × (w < to) × (key_at enums s (get_or index w 0) ≡ class)
     unfolding numbered
     found = r.at w i

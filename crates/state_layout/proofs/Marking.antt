@@ -5,10 +5,9 @@ use mathlib.Core.Path.{◌≡◌, refl, sym, ap, ◌∙◌}
 use mathlib.Core.Bool.{Bool, true, false, not, cond, ◌&&◌, and-false}
 use mathlib.Core.List.{List, [], ◌∷◌}
 use lib.ListN.{length, get_or, set}
+use Rattle.std.specs.Prelude.{Option, Some, None}
 use Rattle.format.specs.Lists.{is_in}
 use Rattle.format.specs.Manifest.{Section}
-use Rattle.state_index.specs.declared.Found.{Found}
-use Rattle.state_index.specs.declared.Found.TheVariants.{At, Nothing}
 use Rattle.state_index.specs.Sort.{Kept}
 use Rattle.state_index.specs.Find.{Finds}
 use Rattle.state_index.proofs.Search.{span-get}
@@ -16,8 +15,8 @@ use Rattle.state_layout.specs.Marks.{keys_at, Keyed, marks_of, Marked, Marks, Ma
 use Rattle.state_layout.proofs.Kept.{kept_refl, set-kept, span_set, span-kept}
 use Rattle.state_layout.proofs.Marked.{mark_set, mark-read, keys-long, key_of, key-found, keyed-kept}
 
-module _ {e : Section} {s old : List ℕ} {from to m : ℕ} {key : List ℕ} {f : Found} (k : Keyed e s old from to m) (r : Finds e s old from to key f) where
-  pub marks-nothing : f ≡ Nothing → Marks e s from to m key f old old
+module _ {e : Section} {s old : List ℕ} {from to m : ℕ} {key : List ℕ} {f : Option ℕ} (k : Keyed e s old from to m) (r : Finds e s old from to key f) where
+  pub marks-nothing : f ≡ None → Marks e s from to m key f old old
   marks-nothing n = record {
     at = λ v i. let z : ◌≡◌ {A = ℕ} 0 1 = cc in absurd (omega arith);
     nothing = r.nothing;
@@ -26,7 +25,7 @@ module _ {e : Section} {s old : List ℕ} {from to m : ℕ} {key : List ℕ} {f 
     next = λ v i seen h. let z : ◌≡◌ {A = ℕ} 0 1 = cc in absurd (omega arith);
   }
 
-  pub marks-new-nothing : f ≡ Nothing → MarksNew e s from to m key f old old
+  pub marks-new-nothing : f ≡ None → MarksNew e s from to m key f old old
   marks-new-nothing n = record {
     at = λ v i. let z : ◌≡◌ {A = ℕ} 0 1 = cc in absurd (omega arith);
     kept = kept_refl m (m + (to - from)) old;
@@ -34,7 +33,7 @@ module _ {e : Section} {s old : List ℕ} {from to m : ℕ} {key : List ℕ} {f 
     nothing = λ i seen h. rw (r.nothing n);
   }
 
-  module _ {w : ℕ} (i : f ≡ At w) where
+  module _ {w : ℕ} (i : f ≡ Some w) where
     least : from ≤ w
     least = (r.at w i).0
 
@@ -76,7 +75,7 @@ module _ {e : Section} {s old : List ℕ} {from to m : ℕ} {key : List ℕ} {f 
         ∙ mark-read seen (keys_at e s old from to) (w - from) place
         ∙ ap (λ (l : List ℕ). cond (is_in l seen) 1 0) here
 
-    pub marks-at : Marks e s from to m key (At w) old (set old (m + (w - from)) 1)
+    pub marks-at : Marks e s from to m key (Some w) old (set old (m + (w - from)) 1)
     marks-at = record {
       at = λ v j. let q : w ≡ v = cc in (rw q at least, rw q at most, is-in);
       nothing = λ j. let z : ◌≡◌ {A = ℕ} 0 1 = cc in absurd (omega arith);
@@ -85,7 +84,7 @@ module _ {e : Section} {s old : List ℕ} {from to m : ℕ} {key : List ℕ} {f 
       next = λ v j. next;
     }
 
-    pub marks-new-at : get_or old (m + (w - from)) 0 ≡ 0 → MarksNew e s from to m key (At w) old (set old (m + (w - from)) 1)
+    pub marks-new-at : get_or old (m + (w - from)) 0 ≡ 0 → MarksNew e s from to m key (Some w) old (set old (m + (w - from)) 1)
     marks-new-at z = record {
       at = λ v j. let q : w ≡ v = cc in (rw q at least, rw q at most);
       kept = only;
@@ -97,7 +96,7 @@ module _ {e : Section} {s old : List ℕ} {from to m : ℕ} {key : List ℕ} {f 
         unmet true q = absurd (omega arith)
         unmet false q = refl
 
-    pub marks-new-met : (get_or old (m + (w - from)) 0 ≡ 0 → ⊥) → MarksNew e s from to m key Nothing old old
+    pub marks-new-met : (get_or old (m + (w - from)) 0 ≡ 0 → ⊥) → MarksNew e s from to m key None old old
     marks-new-met z = record {
       at = λ v j. let z : ◌≡◌ {A = ℕ} 0 1 = cc in absurd (omega arith);
       kept = kept_refl m (m + (to - from)) old;

@@ -1,11 +1,9 @@
 -- Marks of the keys that were met.
-use Rattle.std.specs.Prelude.{ℕ, zero, suc, ◌+◌, ◌-◌, ◌≤◌, ◌<◌, ◌≡◌, Bool, true, false, not, cond, ◌&&◌, List, ◌∷◌, map, length}
+use Rattle.std.specs.Prelude.{Option, Some, None, ℕ, zero, suc, ◌+◌, ◌-◌, ◌≤◌, ◌<◌, ◌≡◌, Bool, true, false, not, cond, ◌&&◌, List, ◌∷◌, map, length}
 use Rattle.state.specs.Bytes.{span}
 use Rattle.format.specs.Lists.{is_in, all_different}
 use Rattle.format.specs.Manifest.{Section}
 use Rattle.format.specs.Places.{key_at}
-use Rattle.state_index.specs.declared.Found.{Found}
-use Rattle.state_index.specs.declared.Found.TheVariants.{At, Nothing}
 use Rattle.state_index.specs.Sort.{Ordered, Kept}
 use Rattle.state_index.specs.Find.{key_at_most}
 
@@ -35,17 +33,17 @@ pub record Marked (e : Section) (s index : List ℕ) (from to marks : ℕ) (seen
   pub set : span index marks (marks + (to - from)) ≡ marks_of seen (keys_at e s index from to)
 
 -- what `mark` does of a key: found or not, and marked where it was found
-pub record Marks (e : Section) (s : List ℕ) (from to marks : ℕ) (key : List ℕ) (r : Found) (old new : List ℕ) : Type 0 where
-  pub at : (w : ℕ) → r ≡ At w → (from ≤ w) × (w < to) × (is_in key (keys_at e s old from to) ≡ true)
-  pub nothing : r ≡ Nothing → is_in key (keys_at e s old from to) ≡ false
-  pub same : r ≡ Nothing → new ≡ old
+pub record Marks (e : Section) (s : List ℕ) (from to marks : ℕ) (key : List ℕ) (r : Option ℕ) (old new : List ℕ) : Type 0 where
+  pub at : (w : ℕ) → r ≡ Some w → (from ≤ w) × (w < to) × (is_in key (keys_at e s old from to) ≡ true)
+  pub nothing : r ≡ None → is_in key (keys_at e s old from to) ≡ false
+  pub same : r ≡ None → new ≡ old
   pub kept : Kept marks (marks + (to - from)) old new
-  pub next : (w : ℕ) → r ≡ At w → (seen : List (List ℕ)) → Marked e s old from to marks seen → Marked e s new from to marks (key ∷ seen)
+  pub next : (w : ℕ) → r ≡ Some w → (seen : List (List ℕ)) → Marked e s old from to marks seen → Marked e s new from to marks (key ∷ seen)
 
 -- what `mark_new` does: not found where it was met before
-pub record MarksNew (e : Section) (s : List ℕ) (from to marks : ℕ) (key : List ℕ) (r : Found) (old new : List ℕ) : Type 0 where
-  pub at : (w : ℕ) → r ≡ At w → (from ≤ w) × (w < to)
+pub record MarksNew (e : Section) (s : List ℕ) (from to marks : ℕ) (key : List ℕ) (r : Option ℕ) (old new : List ℕ) : Type 0 where
+  pub at : (w : ℕ) → r ≡ Some w → (from ≤ w) × (w < to)
   pub kept : Kept marks (marks + (to - from)) old new
-  pub found : (w : ℕ) → r ≡ At w → (seen : List (List ℕ)) → Marked e s old from to marks seen
+  pub found : (w : ℕ) → r ≡ Some w → (seen : List (List ℕ)) → Marked e s old from to marks seen
       → (is_in key (keys_at e s old from to) ≡ true) × (is_in key seen ≡ false) × Marked e s new from to marks (key ∷ seen)
-  pub nothing : r ≡ Nothing → (seen : List (List ℕ)) → Marked e s old from to marks seen → (is_in key (keys_at e s old from to) && not (is_in key seen)) ≡ false
+  pub nothing : r ≡ None → (seen : List (List ℕ)) → Marked e s old from to marks seen → (is_in key (keys_at e s old from to) && not (is_in key seen)) ≡ false

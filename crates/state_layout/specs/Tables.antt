@@ -9,6 +9,7 @@ use Rattle.format.specs.Fields.{Entry}
 use Rattle.format.specs.Places.{manifest_starts, manifest_entries, past}
 use Rattle.format.specs.Reading.{index_words}
 use Rattle.format.specs.Values.{value_at, Well}
+use Rattle.state_index.specs.declared.Table as index
 use Rattle.questions.specs.Sets.{sum}
 
 -- the manifest that bytes spell; where they were accepted by questions 3 to 10, the one that was read
@@ -25,6 +26,11 @@ unfoldable pub table_start : (k : ℕ) → El manifest → ℕ
 unfolding manifest
 table_start k m = 12 + sum (take (k - 2) (counts lists m.1))
 
+-- where it lies
+abbrev pub table_at : (k : ℕ) → El manifest → index.Table
+table_at k m = record { from = table_start k m; to = table_start (suc k) m }
+
+-- the words that it lists
 abbrev pub table_of : (k : ℕ) → (s index : List ℕ) → List ℕ
 table_of k s index = span index (table_start k (manifest_of s)) (table_start (suc k) (manifest_of s))
 

@@ -10,13 +10,13 @@ ghost use Rattle.format.specs.Manifest.{value_type, value, enums};
 ghost use Rattle.format.specs.Values.{value_at};
 ghost use Rattle.questions.specs.Declarations.{enum_holds};
 ghost use Rattle.questions.specs.Inputs.{same_type};
-ghost use Rattle.state_layout.specs.Tables.{Tabled, table_start, manifest_of};
+ghost use Rattle.state_layout.specs.Tables.{Tabled, table_start, table_at, manifest_of};
 ghost use Rattle.state_layout.specs.Marks.{Keyed};
 ghost use Rattle.state_layout.specs.Classes.{classes_at};
 
 use state::{Section, WireValueType};
 use state_index::keys::{byte_at, count_at};
-use state_index::{Found, ahead, find, text_end, text_part, word_at};
+use state_index::{Table, ahead, text_end, text_part, word_at};
 use state_key_order::same_bytes;
 
 // Are the value types at a position of s and at one of t the same?
@@ -33,32 +33,17 @@ pub fn same_type(s: &[u8], a: usize, t: &[u8], b: usize) -> bool
     same_bytes(text_part(s, ahead(s, a, 1)), text_part(t, ahead(t, b, 1)))
 }
 
-// Is the value at a position of t of a class that the words from..to list, its ordinal in range, if it is an enum value at all?
-pub fn validate_value_enum(
-    s: &[u8],
-    index: &[u32],
-    from: usize,
-    to: usize,
-    t: &[u8],
-    at: usize,
-) -> bool
-    requires { Keyed enums s.now index.now from to to }
-    ensures { result ≡ enum_holds (classes_at s.now index.now from to) (value_at value t.now at) }
+// Is the value at a position of t of a class that the table lists, its ordinal in range, if it is an enum value at all?
+pub fn validate_value_enum(s: &[u8], index: &[u32], classes: Table, t: &[u8], at: usize) -> bool
+    requires { Keyed enums s.now index.now classes.from classes.to classes.to }
+    ensures { result ≡ enum_holds (classes_at s.now index.now classes.from classes.to) (value_at value t.now at) }
 {
     if byte_at(t, at) != WireValueType::ENUM {
         return true;
     }
     let class = ahead(t, at, 1);
-    let f = find(
-        s,
-        Section::ENUMS,
-        index,
-        from,
-        to,
-        text_part(t, class),
-        from,
-    );
-    let Found::At(w) = f else {
+    let f = classes.find(s, Section::ENUMS, index, text_part(t, class), classes.from);
+    let Some(w) = f else {
         return false;
     };
     let ordinal = count_at(t, text_end(t, class));
@@ -81,4 +66,16 @@ pub fn table_start(s: &[u8], index: &[u32], section: u8) -> usize
         k += 1;
     }
     w
+}
+
+// Where the table of a section lies.
+pub fn table_at(s: &[u8], index: &[u32], section: u8) -> Table
+    requires tabled { Tabled s.now index.now }
+    requires section_bound { section ≤ 12 }
+    ensures { result ≡ table_at section (manifest_of s.now) }
+{
+    Table {
+        from: table_start(s, index, section),
+        to: table_start(s, index, section + 1),
+    }
 }

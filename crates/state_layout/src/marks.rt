@@ -5,28 +5,24 @@ ghost use Rattle.format.specs.Manifest.{numbered};
 ghost use Rattle.questions.specs.Sets.{all};
 ghost use Rattle.state_layout.specs.Marks.{is_set, Keyed, Marks, MarksNew};
 
-use state_index::{Found, find};
+use state_index::Table;
 
-// Finds a key among the words from..to and sets its mark.
+// Finds a key in a table and sets its mark.
 pub fn mark(
     s: &[u8],
     section: u8,
     index: &mut [u32],
-    from: usize,
-    to: usize,
+    table: Table,
     marks: usize,
     key: &[u8],
     hint: usize,
-) -> Found
-    requires { Keyed (numbered section) s.now index.old from to marks }
-    ensures { Marks (numbered section) s.now from to marks key.now result index.old index.new }
+) -> Option<usize>
+    requires { Keyed (numbered section) s.now index.old table.from table.to marks }
+    ensures { Marks (numbered section) s.now table.from table.to marks key.now result index.old index.new }
 {
-    let f = find(s, section, index, from, to, key, hint);
-    let Found::At(w) = f else {
-        return f;
-    };
-    index[marks + (w - from)] = 1;
-    f
+    let w = table.find(s, section, index, key, hint)?;
+    index[marks + (w - table.from)] = 1;
+    Some(w)
 }
 
 // The same, where the mark is not set yet; a key whose mark is set counts as not found.
@@ -34,25 +30,21 @@ pub fn mark_new(
     s: &[u8],
     section: u8,
     index: &mut [u32],
-    from: usize,
-    to: usize,
+    table: Table,
     marks: usize,
     key: &[u8],
     hint: usize,
-) -> Found
-    requires { Keyed (numbered section) s.now index.old from to marks }
-    ensures { MarksNew (numbered section) s.now from to marks key.now result index.old index.new }
+) -> Option<usize>
+    requires { Keyed (numbered section) s.now index.old table.from table.to marks }
+    ensures { MarksNew (numbered section) s.now table.from table.to marks key.now result index.old index.new }
 {
-    let f = find(s, section, index, from, to, key, hint);
-    let Found::At(w) = f else {
-        return f;
-    };
-    let m = marks + (w - from);
+    let w = table.find(s, section, index, key, hint)?;
+    let m = marks + (w - table.from);
     if index[m] != 0 {
-        return Found::Nothing;
+        return None;
     }
     index[m] = 1;
-    f
+    Some(w)
 }
 
 // Whether all marks from..to are set.

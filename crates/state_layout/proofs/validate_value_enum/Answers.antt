@@ -19,14 +19,14 @@ returns-in_default c =
 pub returns-then-ordinal-eq0 : goal.returns-then-ordinal-eq0
 returns-then-ordinal-eq0 c =
     class-zero _ _ c.requires c.byte_at.ensures c.if-byte_at-ne-ENUM.false c.ahead-class.ensures c.text_part.ensures c.find-f.ensures
-    c.in-At.is c.text_end.ensures c.count_at-ordinal.ensures c.if-ordinal-eq0.true
+    c.in-Some.is c.text_end.ensures c.count_at-ordinal.ensures c.if-ordinal-eq0.true
 
 pub word_at-requires : goal.word_at-requires
 word_at-requires c =
-    omega (arith, c.find-f.ensures.at _ c.in-At.is, c.requires)
+    omega (arith, c.find-f.ensures.at _ c.in-Some.is, c.requires)
 
 pub returns : goal.returns
 returns c =
     class-range _ _ c.requires c.byte_at.ensures c.if-byte_at-ne-ENUM.false c.ahead-class.ensures c.text_part.ensures c.find-f.ensures
-    c.in-At.is c.text_end.ensures c.count_at-ordinal.ensures (λ e. omega arith)
+    c.in-Some.is c.text_end.ensures c.count_at-ordinal.ensures (λ e. omega arith)
     c.word_at.ensures c.text_end-2.ensures c.count_at.ensures

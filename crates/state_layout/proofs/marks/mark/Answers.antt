@@ -1,23 +1,23 @@
+use mathlib.Core.Path.{refl}
 use native.Mathlib.Omega.{arith}
 use Rattle.state_layout.proofs.Marking.{marks-nothing, marks-at}
 use Rattle.state_layout.proofs.marks.mark.Goals as goal
 
-pub returns-in_default : goal.returns-in_default
-returns-in_default c =
-    marks-nothing c.requires c.find-f.ensures c.in_default.is
+pub returns-in_err-w : goal.returns-in_err-w
+returns-in_err-w c = rw c.from_residual.ensures (marks-nothing c.requires (rw c.in_err-w.was at c.find.ensures) refl)
 
 pub overflow_sub-index : goal.overflow_sub-index
-overflow_sub-index c = (c.find-f.ensures.at _ c.in-At.is).0
+overflow_sub-index c = (c.find.ensures.at _ c.in_ok-w.was).0
 
 pub overflow_add-index : goal.overflow_add-index
-overflow_add-index c = omega (arith, c.find-f.ensures.at _ c.in-At.is)
+overflow_add-index c = omega (arith, c.find.ensures.at _ c.in_ok-w.was)
 
 pub offset_bounds-index-marks : goal.offset_bounds-index-marks
-offset_bounds-index-marks c = omega (arith, c.find-f.ensures.at _ c.in-At.is)
+offset_bounds-index-marks c = omega (arith, c.find.ensures.at _ c.in_ok-w.was)
 
 pub bounds-index-marks : goal.bounds-index-marks
-bounds-index-marks c = omega (arith, c.find-f.ensures.at _ c.in-At.is)
+bounds-index-marks c = omega (arith, c.find.ensures.at _ c.in_ok-w.was)
 
 pub returns : goal.returns
 returns c =
-    marks-at c.requires c.find-f.ensures c.in-At.is
+    marks-at c.requires c.find.ensures c.in_ok-w.was

@@ -1,33 +1,33 @@
+use mathlib.Core.Path.{refl}
 use native.Mathlib.Omega.{arith}
 use Rattle.state_layout.proofs.Marking.{marks-new-nothing, marks-new-at, marks-new-met}
 use Rattle.state_layout.proofs.marks.mark_new.Goals as goal
 
-pub returns-in_default : goal.returns-in_default
-returns-in_default c =
-    marks-new-nothing c.requires c.find-f.ensures c.in_default.is
+pub returns-in_err-w : goal.returns-in_err-w
+returns-in_err-w c = rw c.from_residual.ensures (marks-new-nothing c.requires (rw c.in_err-w.was at c.find.ensures) refl)
 
 pub overflow_sub-m : goal.overflow_sub-m
-overflow_sub-m c = (c.find-f.ensures.at _ c.in-At.is).0
+overflow_sub-m c = (c.find.ensures.at _ c.in_ok-w.was).0
 
 pub overflow_add-m : goal.overflow_add-m
-overflow_add-m c = omega (arith, c.find-f.ensures.at _ c.in-At.is)
+overflow_add-m c = omega (arith, c.find.ensures.at _ c.in_ok-w.was)
 
 pub offset_bounds-index-m : goal.offset_bounds-index-m
-offset_bounds-index-m c = omega (arith, c.find-f.ensures.at _ c.in-At.is)
+offset_bounds-index-m c = omega (arith, c.find.ensures.at _ c.in_ok-w.was)
 
 pub bounds-index-m : goal.bounds-index-m
-bounds-index-m c = omega (arith, c.find-f.ensures.at _ c.in-At.is)
+bounds-index-m c = omega (arith, c.find.ensures.at _ c.in_ok-w.was)
 
 pub returns-then-index-m-ne0 : goal.returns-then-index-m-ne0
 returns-then-index-m-ne0 c =
-    marks-new-met c.requires c.find-f.ensures c.in-At.is c.if-index-m-ne0.true
+    marks-new-met c.requires c.find.ensures c.in_ok-w.was c.if-index-m-ne0.true
 
 pub offset_bounds-index-m-2 : goal.offset_bounds-index-m-2
-offset_bounds-index-m-2 c = omega (arith, c.find-f.ensures.at _ c.in-At.is)
+offset_bounds-index-m-2 c = omega (arith, c.find.ensures.at _ c.in_ok-w.was)
 
 pub bounds-index-m-2 : goal.bounds-index-m-2
-bounds-index-m-2 c = omega (arith, c.find-f.ensures.at _ c.in-At.is)
+bounds-index-m-2 c = omega (arith, c.find.ensures.at _ c.in_ok-w.was)
 
 pub returns : goal.returns
 returns c =
-    marks-new-at c.requires c.find-f.ensures c.in-At.is (omega arith)
+    marks-new-at c.requires c.find.ensures c.in_ok-w.was (omega arith)
