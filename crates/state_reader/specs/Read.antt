@@ -20,11 +20,12 @@ abbrev pub past_field : NumberRead → (at : ℕ) → ℕ
 past_field (Ok f) at = f.1
 past_field (Err e) at = at
 
--- a string's reading at `at`, as an answer with a base: where its text begins and ends. Document 01, state_wire.rs: "A string is two fields, a
--- u32 length and a text of that many bytes", so the text begins four bytes on; "A refusal is number and offset"
+-- what code answers that reads a string: where its text begins and ends
 abbrev pub TextRead : Type 0
 TextRead = Result (Range ℕ) (Refusal ℕ)
 
+-- a string's reading at `at`, as an answer with a base: where its text begins and ends. Document 01, state_wire.rs: "A string is two fields, a
+-- u32 length and a text of that many bytes", so the text begins four bytes on; "A refusal is number and offset"
 abbrev pub string_read : (base at : ℕ) → Outcome (List ℕ) → TextRead
 string_read base at (got bs next) = Ok (record { start = at + 4; end = next })
 string_read base at (refused q p) = refuses q (offset_of base p)

@@ -40,7 +40,7 @@ pub fn past_field(f: Field, at: usize) -> usize
     f.map_or(at, |(_, next)| next)
 }
 
-// Each method takes the reader apart and makes one call.
+// Each method takes the reader apart for one call or comparison.
 impl<'a> Reader<'a> {
     pub fn new(bytes: &'a [u8], base_offset: u64) -> Reader<'a>
         ensures { result ≡ opened bytes.entry base_offset }
