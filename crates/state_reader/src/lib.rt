@@ -6,7 +6,8 @@ ghost use Rattle.state.specs.Outcome.{step_of, field_of, offset_of};
 ghost use Rattle.state_wire.specs.Fields.{read_number, read_text, text_of};
 ghost use Rattle.state_reader.specs.Read.{string_read, opened, moved_to, past_field};
 
-use state::{Field, Step};
+use state::{Field, Refusal, Step};
+use std::ops::Range;
 
 #[derive(Clone, Copy)]
 pub struct Reader<'a> {
@@ -16,29 +17,19 @@ pub struct Reader<'a> {
 }
 
 // Where the text of a string begins and ends; or the question that fails, and the offset.
-#[derive(Clone, Copy)]
-pub enum StringRead {
-    Text(usize, usize),
-    Refused(u8, u64),
-}
-
-// Are all bytes read?
-pub fn at_end(s: &[u8], at: usize) -> bool
-    ensures { result ≡ eqb at (length s.now) }
-{
-    at == s.len()
-}
+pub type StringRead = Result<Range<usize>, Refusal<u64>>;
 
 // A string of at most `limit` bytes, with its place or the offset of its refusal.
+#[tactic(auto, unfolding(state_wire::specs::Fields::read_text, state_wire::specs::Fields::read_number, state_wire::specs::Fields::read_span))]
 pub fn string_at(s: &[u8], at: usize, base: u64, limit: usize) -> StringRead
     ensures { result ≡ string_read base at (read_text limit s.now at) }
 {
-    let read = state_wire::string_bounded(s, at, limit);
-    match read {
-        Step::Next(next) => StringRead::Text(at + 4, next),
-        Step::Refused(question, position) => {
-            StringRead::Refused(question, state_wire::offset(base, position))
-        }
+    match state_wire::string_bounded(s, at, limit) {
+        Ok(next) => Ok(at + 4..next),
+        Err(refusal) => Err(Refusal {
+            question: refusal.question,
+            at: state_wire::offset(base, refusal.at),
+        }),
     }
 }
 
@@ -46,13 +37,10 @@ pub fn string_at(s: &[u8], at: usize, base: u64, limit: usize) -> StringRead
 pub fn past_field(f: Field, at: usize) -> usize
     ensures { result ≡ past_field f at }
 {
-    match f {
-        Field::Value(_, next) => next,
-        Field::Refused(_, _) => at,
-    }
+    f.map_or(at, |(_, next)| next)
 }
 
-// Each method takes the reader apart and makes one call.
+// Each method takes the reader apart for one call or comparison.
 impl<'a> Reader<'a> {
     pub fn new(bytes: &'a [u8], base_offset: u64) -> Reader<'a>
         ensures { result ≡ opened bytes.entry base_offset }
@@ -90,25 +78,25 @@ impl<'a> Reader<'a> {
     pub fn is_empty(self) -> bool
         ensures { result ≡ eqb self.entry.position (length self.entry.bytes.now) }
     {
-        at_end(self.bytes, self.position)
+        self.position == self.bytes.len()
     }
 
     pub fn u8(self) -> Field
         ensures { result ≡ field_of (read_number 1 self.entry.bytes.now self.entry.position) }
     {
-        state_wire::read_u8(self.bytes, self.position)
+        state_wire::read_number::<1>(self.bytes, self.position)
     }
 
     pub fn u32(self) -> Field
         ensures { result ≡ field_of (read_number 4 self.entry.bytes.now self.entry.position) }
     {
-        state_wire::read_u32(self.bytes, self.position)
+        state_wire::read_number::<4>(self.bytes, self.position)
     }
 
     pub fn u64(self) -> Field
         ensures { result ≡ field_of (read_number 8 self.entry.bytes.now self.entry.position) }
     {
-        state_wire::read_u64(self.bytes, self.position)
+        state_wire::read_number::<8>(self.bytes, self.position)
     }
 
     pub fn string_bounded(self, limit: usize) -> Step
@@ -134,7 +122,7 @@ impl<'a> Reader<'a> {
     pub fn next_u32<'s>(&'s mut self) -> Field
         ensures { (result ≡ field_of (read_number 4 self.old.bytes.now self.old.position)) × (self.new ≡ moved_to self.old (past_field result self.old.position)) }
     {
-        let f = state_wire::read_u32(self.bytes, self.position);
+        let f = state_wire::read_number::<4>(self.bytes, self.position);
         self.position = past_field(f, self.position);
         f
     }
