@@ -9,55 +9,38 @@ ghost use Rattle.state_reader.specs.Read.{string_read};
 ghost use Rattle.state_key_order.specs.Compare.{block_keys_compared, connector_keys_compared};
 ghost use Rattle.archive_c.specs.Codes.{order_code, string_code, string_words, keys_code, keys_words};
 
-use order::Order;
-use state_key_order::KeysCompared;
+use state_key_order::{KeyRefused, KeysCompared};
 use state_reader::StringRead;
+use std::cmp::Ordering;
 
-fn code_of(order: Order) -> u32
+fn code_of(order: Ordering) -> u32
     ensures { result ≡ order_code order }
 {
     match order {
-        Order::Less => 0,
-        Order::Equal => 1,
-        Order::Greater => 2,
+        Ordering::Less => 0,
+        Ordering::Equal => 1,
+        Ordering::Greater => 2,
     }
 }
 
-fn string_code(read: StringRead) -> u32
-    ensures { result ≡ string_code read }
+// The result for a string, and the two words of `answer`.
+fn string_answer(read: StringRead) -> (u32, [u64; 2])
+    ensures { (result.0 ≡ string_code read) × (result.1 ≡ string_words read) }
 {
     match read {
-        StringRead::Text(_, _) => 0,
-        StringRead::Refused(question, _) => question as u32,
+        Ok(text) => (0, [text.start as u64, text.end as u64]),
+        Err(refusal) => (u32::from(refusal.question.0), [refusal.at, 0]),
     }
 }
 
-fn string_words(read: StringRead) -> [u64; 2]
-    ensures { result ≡ string_words read }
-{
-    match read {
-        StringRead::Text(start, end) => [start as u64, end as u64],
-        StringRead::Refused(_, offset) => [offset, 0],
-    }
-}
-
-fn keys_code(keys: KeysCompared) -> u32
-    ensures { result ≡ keys_code keys }
+// The result for two keys, and the two words of `answer`.
+fn keys_answer(keys: KeysCompared) -> (u32, [u64; 2])
+    ensures { (result.0 ≡ keys_code keys) × (result.1 ≡ keys_words keys) }
 {
     match keys {
-        KeysCompared::Compared(order, _) => code_of(order),
-        KeysCompared::LeftRefused(_, _) => 3,
-        KeysCompared::RightRefused(_, _) => 4,
-    }
-}
-
-fn keys_words(keys: KeysCompared) -> [u64; 2]
-    ensures { result ≡ keys_words keys }
-{
-    match keys {
-        KeysCompared::Compared(_, agree) => [agree as u64, 0],
-        KeysCompared::LeftRefused(question, position) => [question as u64, position as u64],
-        KeysCompared::RightRefused(question, position) => [question as u64, position as u64],
+        Ok(compared) => (code_of(compared.order), [compared.agree as u64, 0]),
+        Err(KeyRefused::Left(refusal)) => (3, [u64::from(refusal.question.0), refusal.at as u64]),
+        Err(KeyRefused::Right(refusal)) => (4, [u64::from(refusal.question.0), refusal.at as u64]),
     }
 }
 
@@ -77,9 +60,9 @@ pub extern "C" fn archive_read_string(
 ) -> u32
     ensures { (result ≡ string_code (string_read base 0 (read_text limit bytes.now 0))) × (answer.new ≡ string_words (string_read base 0 (read_text limit bytes.now 0))) }
 {
-    let read = state_reader::read_string(bytes, base, limit);
-    *answer = string_words(read);
-    string_code(read)
+    let (code, words) = string_answer(state_reader::read_string(bytes, base, limit));
+    *answer = words;
+    code
 }
 
 #[unsafe(no_mangle)]
@@ -88,8 +71,7 @@ pub extern "C" fn archive_compare(a: &[u8], b: &[u8], agree: &mut u64) -> u32
 {
     let c = order::compare(a, b);
     *agree = c.agree as u64;
-    let order = c.order;
-    code_of(order)
+    code_of(c.order)
 }
 
 #[unsafe(no_mangle)]
@@ -102,9 +84,9 @@ pub extern "C" fn archive_compare_block_keys(
 ) -> u32
     ensures { (result ≡ keys_code (block_keys_compared left.now at right.now from)) × (answer.new ≡ keys_words (block_keys_compared left.now at right.now from)) }
 {
-    let keys = state_key_order::compare_block_keys(left, at, right, from);
-    *answer = keys_words(keys);
-    keys_code(keys)
+    let (code, words) = keys_answer(state_key_order::compare_block_keys(left, at, right, from));
+    *answer = words;
+    code
 }
 
 #[unsafe(no_mangle)]
@@ -117,7 +99,7 @@ pub extern "C" fn archive_compare_connector_keys(
 ) -> u32
     ensures { (result ≡ keys_code (connector_keys_compared left.now at right.now from)) × (answer.new ≡ keys_words (connector_keys_compared left.now at right.now from)) }
 {
-    let keys = state_key_order::compare_connector_keys(left, at, right, from);
-    *answer = keys_words(keys);
-    keys_code(keys)
+    let (code, words) = keys_answer(state_key_order::compare_connector_keys(left, at, right, from));
+    *answer = words;
+    code
 }
