@@ -4,6 +4,9 @@ use native.Mathlib.Omega.{arith}
 use mathlib.Core.Path.{◌≡◌, refl, sym, ap, ◌∙◌}
 use mathlib.Core.Bool.{Bool, true, false}
 use mathlib.Core.List.{List, [], ◌∷◌, ◌++◌, map}
+use Rattle.std.specs.Prelude.{Ok, Err}
+use Rattle.state.specs.Outcome.{said}
+use Rattle.state.specs.declared.Question.{Question}
 use Rattle.format.specs.Admits.{All}
 use Rattle.questions.specs.Sets.{◌unless◌, first}
 
@@ -69,3 +72,23 @@ unless-none q false h = absurd (omega arith)
 pub each_none : {A : Type 0} (f : A → ℕ) (xs : List A) → first (map f xs) ≡ 0 → All (λ x. f x ≡ 0) xs
 each_none f [] h = tt
 each_none f (x ∷ xs) h = let p = first-none (f x) (map f xs) h in (p.0, each_none f xs p.1)
+
+-- ---- an answer as code says it: `Ok`, or `Err` with the question that says no
+pub said-yes : (n : ℕ) {u : Unit} → said n ≡ Ok u → n ≡ 0
+said-yes zero e = refl
+said-yes (suc n) e = cc
+
+pub said-no : (n : ℕ) {d : Question} → said n ≡ Err d → (n ≡ d.0) × (n ≡ 0 → ⊥)
+said-no zero e = cc
+said-no (suc n) {d = d} e = let i : record { 0 = suc n } ≡ d = cc in (ap (λ (x : Question). x.0) i, λ z. absurd (omega arith))
+
+pub says-said : (n : ℕ) → (n ≡ 0 → ⊥) → Err (record { 0 = n }) ≡ said n
+says-said zero h = absurd (h refl)
+says-said (suc n) h = refl
+
+-- of a group in front of others
+pub said-group-no : (xs ys : List ℕ) {d : Question} → said (first xs) ≡ Err d → Err d ≡ said (first (xs ++ ys))
+said-group-no xs ys {d = d} e = let p = said-no (first xs) e in sym e ∙ ap said (group-no xs ys refl p.1)
+
+pub said-group-yes : (xs ys : List ℕ) {u : Unit} → said (first xs) ≡ Ok u → said (first (xs ++ ys)) ≡ said (first ys)
+said-group-yes xs ys e = ap said (group-yes xs ys refl (said-yes (first xs) e))
