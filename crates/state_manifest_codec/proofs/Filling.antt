@@ -9,8 +9,9 @@ use lib.ListN.{length, take, drop, set, length-set}
 use lib.Seq.{take-suc-set, append_snoc, take-take, take_at, drop_at, length-take-le}
 use Rattle.state.specs.Bytes.{span}
 use Rattle.state_index.proofs.Lists.{slice-run}
-use Rattle.state.specs.declared.Step.{Step}
-use Rattle.state.specs.declared.Step.TheVariants as step
+use Rattle.std.specs.Prelude.{Ok, Err}
+use Rattle.state.specs.declared.Refusal.{Refusal}
+use Rattle.state.specs.Outcome.{Stepped}
 use Rattle.format.specs.Format.{Fmt, ◌then◌, scan}
 use Rattle.format.proofs.Steps.{then-on}
 use Rattle.format.proofs.Places.{starts-length}
@@ -49,7 +50,7 @@ module _ {limit : ℕ} {f : Fmt} {s : List ℕ} {n m word : ℕ} {old : List ℕ
       c : suc (left - 1) ≡ left
       c = omega arith
 
-  pub filling-done : left ≤ 0 → {r answer : Step} → r ≡ answer → Fills r answer (starts limit f s n m) word old new
+  pub filling-done : left ≤ 0 → {r answer : Stepped} → r ≡ answer → Fills r answer (starts limit f s n m) word old new
   unfolding starts
   filling-done h i = record { is = i; long = g.long; front = λ z e. ap (λ (j : ℕ). take (word + j) new) (starts-length limit f s n m) ∙ ap (λ (j : ℕ). take j new) c ∙ sym (append-nil (take w new)) ∙ ap (λ (j : ℕ). take w new ++ starts limit f s j p) z0 ∙ g.front }
     where
@@ -64,22 +65,22 @@ module _ {limit : ℕ} {f : Fmt} {s : List ℕ} {n m word : ℕ} {old : List ℕ
   filling-room r h = omega (arith, g.used, g.long, r.there)
 
 -- a refusal leaves the words open
-pub fills-stop : {r answer : Step} {ps : List ℕ} {w q p : ℕ} {old new : List ℕ} → r ≡ answer → r ≡ step.Refused q p → length new ≡ length old → Fills r answer ps w old new
+pub fills-stop : {r answer : Stepped} {ps : List ℕ} {w : ℕ} {d : Refusal ℕ} {old new : List ℕ} → r ≡ answer → r ≡ Err d → length new ≡ length old → Fills r answer ps w old new
 fills-stop i h l = record { is = i; long = l; front = λ n e. let z : ◌≡◌ {A = ℕ} 0 1 = cc in absurd (omega arith) }
 
 pub fills-front : (w : ℕ) (old new : List ℕ) → take w new ≡ take w old → take (w + 0) new ≡ take w old ++ []
 fills-front w old new e = ap (λ (j : ℕ). take j new) (add-zero w) ∙ e ∙ sym (append-nil (take w old))
 
 -- no word was touched
-pub fills-none : {r answer : Step} {w : ℕ} {old : List ℕ} → r ≡ answer → Fills r answer [] w old old
+pub fills-none : {r answer : Stepped} {w : ℕ} {old : List ℕ} → r ≡ answer → Fills r answer [] w old old
 fills-none {w = w} {old = old} i = record { is = i; long = refl; front = λ n e. fills-front w old old refl }
 
 -- what a reader that adds no words keeps
-pub fills-keeps : {r answer : Step} {w n : ℕ} {old new : List ℕ} → Fills r answer [] w old new → r ≡ step.Next n → take w new ≡ take w old
+pub fills-keeps : {r answer : Stepped} {w n : ℕ} {old new : List ℕ} → Fills r answer [] w old new → r ≡ Ok n → take w new ≡ take w old
 fills-keeps {w = w} {old = old} {new = new} f e = ap (λ (j : ℕ). take j new) (sym (add-zero w)) ∙ f.front _ e ∙ append-nil (take w old)
 
 -- the words before a table that was filled are as they were, and the table holds what it was filled with
-module _ {r answer : Step} {ps : List ℕ} {w n : ℕ} {old new : List ℕ} (f : Fills r answer ps w old new) (e : r ≡ step.Next n) (h : w ≤ length old) where
+module _ {r answer : Stepped} {ps : List ℕ} {w n : ℕ} {old new : List ℕ} (f : Fills r answer ps w old new) (e : r ≡ Ok n) (h : w ≤ length old) where
   before-long : length (take w old) ≡ w
   before-long = length-take-le w old h
 
@@ -89,9 +90,9 @@ module _ {r answer : Step} {ps : List ℕ} {w n : ℕ} {old new : List ℕ} (f :
   pub fills-table : span new w (w + length ps) ≡ ps
   fills-table = sym (slice-run w (w + length ps) new) ∙ ap (drop w) (f.front n e) ∙ drop_at (take w old) ps w before-long
 
-pub fills-as : {r a b : Step} {ps : List ℕ} {w : ℕ} {old new : List ℕ} → Fills r a ps w old new → r ≡ b → Fills r b ps w old new
+pub fills-as : {r a b : Stepped} {ps : List ℕ} {w : ℕ} {old new : List ℕ} → Fills r a ps w old new → r ≡ b → Fills r b ps w old new
 fills-as f e = record { is = e; long = f.long; front = f.front }
 
 -- where an entry ends that was read in two parts
-pub entry-end : (limit : ℕ) (k r : Fmt) (s : List ℕ) (p : ℕ) {x y : Step} {m e : ℕ} → x ≡ scan limit k s p → x ≡ step.Next m → y ≡ scan limit r s m → y ≡ step.Next e → e ≡ end_at limit (k then r) s p
+pub entry-end : (limit : ℕ) (k r : Fmt) (s : List ℕ) (p : ℕ) {x y : Stepped} {m e : ℕ} → x ≡ scan limit k s p → x ≡ Ok m → y ≡ scan limit r s m → y ≡ Ok e → e ≡ end_at limit (k then r) s p
 entry-end limit k r s p a b c d = ap end_of (sym d ∙ then-on limit s p k r a b c)

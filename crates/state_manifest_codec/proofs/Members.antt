@@ -5,9 +5,9 @@ use mathlib.Core.Bool.{Bool, true, false}
 use mathlib.Core.List.{List, [], ◌∷◌, ◌++◌, map, append-nil}
 use lib.ListN.{length}
 use lib.Seq.{append_snoc}
+use Rattle.state.specs.declared.Refusal.{Refusal}
+use Rattle.std.specs.Prelude.{Ok, Err}
 use Rattle.state.specs.Bytes.{span}
-use Rattle.state.specs.declared.Step.{Step}
-use Rattle.state.specs.declared.Step.TheVariants as step
 use Rattle.state.proofs.Outcome.{onward, asked, step-ask, step-yields}
 use Rattle.format.specs.Lists.{all_different}
 use Rattle.format.specs.Format.{plain, free, distinct, text, done, ◌then◌, scan, scan_entries}
@@ -16,9 +16,7 @@ use Rattle.format.proofs.Steps.{done-step}
 use Rattle.state_manifest_codec.proofs.Filling.{entry-end, fills-before, fills-table, fills-front, fills-stop}
 use Rattle.format.proofs.Entries.{scan-entries, forgets, going_start}
 use Rattle.format.specs.Manifest.{members}
-use Rattle.state.specs.Outcome.{field_of}
-use Rattle.state.specs.declared.Field.{Field}
-use Rattle.state.specs.declared.Field.TheVariants as field
+use Rattle.state.specs.Outcome.{field_of, Stepped, NumberRead, refuses}
 use Rattle.state_wire.specs.Fields.{read_count}
 use Rattle.state_manifest_codec.specs.Tables.{Fills}
 use Rattle.format.proofs.Places.{starts-length}
@@ -29,58 +27,58 @@ use Rattle.state_index.specs.Sort.{Kept}
 
 module _ (limit : ℕ) (s : List ℕ) where
   -- a text that was read is the one that stands there
-  text-there : (at m : ℕ) → scan limit text s at ≡ step.Next m → span s (at + 4) m ≡ text_at s at
+  text-there : (at m : ℕ) → scan limit text s at ≡ Ok m → span s (at + 4) m ≡ text_at s at
   unfolding scan value_at
   text-there at m e = ap (span s (at + 4)) (sym (step-yields (value-got limit s text at) (sym e) refl).2.0)
 
-  entry-there : (at m : ℕ) → scan limit text s at ≡ step.Next m → end_at limit (text then done) s at ≡ m
+  entry-there : (at m : ℕ) → scan limit text s at ≡ Ok m → end_at limit (text then done) s at ≡ m
   entry-there at m e = sym (entry-end limit text done s at refl e (done-step limit s m) refl)
 
   -- what is asked of n members from a position on, after the texts ks
-  unfoldable pub asks : (n at : ℕ) → List (List ℕ) → Step
-  asks n at ks = onward (scan_entries limit free text done s n at []) (λ z. asked (all_different (ks ++ map (text_at s) (starts limit (text then done) s n at))) 8 z (step.Next z))
+  unfoldable pub asks : (n at : ℕ) → List (List ℕ) → Stepped
+  asks n at ks = onward (scan_entries limit free text done s n at []) (λ z. asked (all_different (ks ++ map (text_at s) (starts limit (text then done) s n at))) 8 z (Ok z))
 
-  one_more : (n at m : ℕ) (ks : List (List ℕ)) → scan limit text s at ≡ step.Next m → asks n m (ks ++ (span s (at + 4) m ∷ [])) ≡ asks (suc n) at ks
+  one_more : (n at m : ℕ) (ks : List (List ℕ)) → scan limit text s at ≡ Ok m → asks n m (ks ++ (span s (at + 4) m ∷ [])) ≡ asks (suc n) at ks
   unfolding asks starts
   one_more n at m ks e =
-      ap (λ (l : List (List ℕ)). onward (scan_entries limit free text done s n m []) (λ z. asked (all_different l) 8 z (step.Next z))) (append_snoc ks (span s (at + 4) m) _)
+      ap (λ (l : List (List ℕ)). onward (scan_entries limit free text done s n m []) (λ z. asked (all_different l) 8 z (Ok z))) (append_snoc ks (span s (at + 4) m) _)
       ∙ rw (text-there at m e, entry-there at m e, scan-entries limit free text done s n at [], e, ← done-step limit s m, forgets limit text done s n m (span s at m ∷ []))
 
-  none_more : (n at q p : ℕ) (ks : List (List ℕ)) → scan limit text s at ≡ step.Refused q p → step.Refused q p ≡ asks (suc n) at ks
+  none_more : (n at : ℕ) (d : Refusal ℕ) (ks : List (List ℕ)) → scan limit text s at ≡ Err d → Err d ≡ asks (suc n) at ks
   unfolding asks
-  none_more n at q p ks e = rw (scan-entries limit free text done s n at [], e)
+  none_more n at d ks e = rw (scan-entries limit free text done s n at [], e)
 
   -- questions 3 to 5 of each, then question 8 of all
   pub members-asked : (n at : ℕ) (ks : List (List ℕ)) → scan_entries limit (distinct plain) text done s n at ks ≡ asks n at ks
   unfolding asks starts scan_entries
-  members-asked zero at ks = step-ask (all_different ks) 8 at _ ∙ ap (λ (l : List (List ℕ)). asked (all_different l) 8 at (step.Next at)) (sym (append-nil ks))
+  members-asked zero at ks = step-ask (all_different ks) 8 at _ ∙ ap (λ (l : List (List ℕ)). asked (all_different l) 8 at (Ok at)) (sym (append-nil ks))
   members-asked (suc n) at ks = scan-entries limit (distinct plain) text done s n at ks ∙ go (scan limit text s at) refl (members-asked n)
     where
-      go : (x : Step) → scan limit text s at ≡ x → ((m : ℕ) (js : List (List ℕ)) → scan_entries limit (distinct plain) text done s n m js ≡ asks n m js)
+      go : (x : Stepped) → scan limit text s at ≡ x → ((m : ℕ) (js : List (List ℕ)) → scan_entries limit (distinct plain) text done s n m js ≡ asks n m js)
           → onward x (λ m. onward (scan limit done s m) (λ e. scan_entries limit (distinct plain) text done s n e (ks ++ (span s (at + 4) m ∷ [])))) ≡ asks (suc n) at ks
-      go (step.Next m) e i = rw (← done-step limit s m) (i m (ks ++ (span s (at + 4) m ∷ [])) ∙ one_more n at m ks e)
-      go (step.Refused q p) e i = none_more n at q p ks e
+      go (Ok m) e i = rw (← done-step limit s m) (i m (ks ++ (span s (at + 4) m ∷ [])) ∙ one_more n at m ks e)
+      go (Err d) e i = none_more n at d ks e
 
 -- what `read_members` answers, from what the readers of the count and of the texts and the test of the texts answered
-module _ (limit : ℕ) (s : List ℕ) (at : ℕ) {g : Field} {n m : ℕ} (eg : g ≡ field_of (read_count 4 4 s at)) (ig : g ≡ field.Value n m) {r : Step} {word : ℕ} {old new : List ℕ}
+module _ (limit : ℕ) (s : List ℕ) (at : ℕ) {g : NumberRead} {n m : ℕ} (eg : g ≡ field_of (read_count 4 4 s at)) (ig : g ≡ Ok (n, m)) {r : Stepped} {word : ℕ} {old new : List ℕ}
     (f : Fills r (scan_entries limit free text done s n m []) (starts limit (text then done) s n m) word old new) where
-  whole : scan limit members s at ≡ onward r (λ z. asked (all_different (map (text_at s) (starts limit (text then done) s n m))) 8 z (step.Next z))
+  whole : scan limit members s at ≡ onward r (λ z. asked (all_different (map (text_at s) (starts limit (text then done) s n m))) 8 z (Ok z))
   unfolding members asks
   whole = (going_start limit s at 4 4 (distinct plain) text done eg ig).is ∙ members-asked limit s n m [] ∙ rw f.is
 
-  pub members-stop : {q p : ℕ} → r ≡ step.Refused q p → r ≡ scan limit members s at
+  pub members-stop : {d : Refusal ℕ} → r ≡ Err d → r ≡ scan limit members s at
   members-stop h = h ∙ sym (whole ∙ rw h)
 
-  module _ {e : ℕ} (h : r ≡ step.Next e) (l : word ≤ length old) {b : Bool} {last : List ℕ} (d : (b ≡ all_different (map (text_at s) (span new word (word + n)))) × Kept word (word + n + n) new last) where
+  module _ {e : ℕ} (h : r ≡ Ok e) (l : word ≤ length old) {b : Bool} {last : List ℕ} (d : (b ≡ all_different (map (text_at s) (span new word (word + n)))) × Kept word (word + n + n) new last) where
     table : span new word (word + n) ≡ starts limit (text then done) s n m
     table = ap (λ (x : ℕ). span new word (word + x)) (sym (starts-length limit (text then done) s n m)) ∙ fills-table f h l
 
-    pub members-different : b ≡ true → Fills (step.Next e) (scan limit members s at) [] word old last
+    pub members-different : b ≡ true → Fills (Ok e) (scan limit members s at) [] word old last
     members-different t = record {
       is = sym (whole ∙ rw (h, ← table, ← d.0, t));
       long = d.1.long ∙ f.long;
       front = λ z q. fills-front word old last (d.1.front ∙ fills-before f h l);
     }
 
-    pub members-same : b ≡ false → Fills (step.Refused 8 e) (scan limit members s at) [] word old last
+    pub members-same : b ≡ false → Fills (refuses 8 e) (scan limit members s at) [] word old last
     members-same t = fills-stop (sym (whole ∙ rw (h, ← table, ← d.0, t))) refl (d.1.long ∙ f.long)

@@ -6,8 +6,9 @@ use mathlib.Core.Path.{◌≡◌, refl, sym, ap, ◌∙◌}
 use mathlib.Core.List.{List, ◌∷◌, ◌++◌, map, append-nil, append_assoc}
 use lib.ListN.{length, take, drop, set, length-set, length-take, take-append-drop, drop_of_length-le}
 use lib.Seq.{take-suc-set, take-set-lt, drop-set-lt, take-take, drop-cons, length-take-le, append_snoc, drop-append-le}
-use Rattle.state.specs.declared.Step.{Step}
-use Rattle.state.specs.declared.Step.TheVariants as step
+use Rattle.state.specs.declared.Refusal.{Refusal}
+use Rattle.std.specs.Prelude.{Ok, Err}
+use Rattle.state.specs.Outcome.{Stepped}
 use Rattle.state.proofs.Outcome.{onward, always, step-yields}
 use Rattle.format.specs.Format.{scan, read}
 use Rattle.format.specs.Manifest.{Section, numbered, counted, entry, lists, input_definitions, portability, sequence, manifest}
@@ -43,11 +44,11 @@ next-section n h k =
     let e : suc (n - 2) ≡ n + 1 - 2 = omega arith in
     drop-cons lists (n - 2) input_definitions (omega arith) ∙ ap (λ (x : ℕ). numbered n ∷ drop x lists) e
 
-pub manifest-stop : (limit : ℕ) (s : List ℕ) {x : Step} {q p : ℕ} → x ≡ scan limit portability s 0 → x ≡ step.Refused q p → x ≡ scan limit manifest s 0
+pub manifest-stop : (limit : ℕ) (s : List ℕ) {x : Stepped} {d : Refusal ℕ} → x ≡ scan limit portability s 0 → x ≡ Err d → x ≡ scan limit manifest s 0
 unfolding manifest
 manifest-stop limit s e h = then-stop limit s 0 portability (sequence (map counted lists)) e h
 
-pub reading-start : {limit : ℕ} {s old : List ℕ} → Room s old 0 12 → {x : Step} {p : ℕ} → x ≡ scan limit portability s 0 → x ≡ step.Next p → Reading limit s (set old 0 0) 2 p 12 (set old 0 0)
+pub reading-start : {limit : ℕ} {s old : List ℕ} → Room s old 0 12 → {x : Stepped} {p : ℕ} → x ≡ scan limit portability s 0 → x ≡ Ok p → Reading limit s (set old 0 0) 2 p 12 (set old 0 0)
 unfolding manifest manifest_starts manifest_entries section_starts
 reading-start {limit} {s} {old} r {x} {p} e h = record {
   room = record { short = r.short; here = omega arith; used = omega arith; there = omega (arith, r.there, length-set old 0 0) };
@@ -69,14 +70,14 @@ module _ {limit : ℕ} {s old : List ℕ} {n at w : ℕ} {new : List ℕ} (g : R
   word_fits : w ≤ length new
   word_fits = omega (arith, g.used, g.here, g.long, g.room.there)
 
-  pub reading-end : 12 < n → Fills (step.Next at) (scan limit manifest s 0) (manifest_starts limit s ++ manifest_entries limit s) 0 old new
+  pub reading-end : 12 < n → Fills (Ok at) (scan limit manifest s 0) (manifest_starts limit s ++ manifest_entries limit s) 0 old new
   unfolding section_starts entry_starts
   reading-end h = record { is = answer; long = g.long; front = λ m q. ap (λ (k : ℕ). take (0 + k) new) (ap length (sym words) ∙ length-take-le w new word_fits) ∙ ap (λ (k : ℕ). take k new) (zero-add w) ∙ words }
     where
       e : 13 ≡ n
       e = omega (arith, g.to)
 
-      answer : step.Next at ≡ scan limit manifest s 0
+      answer : Ok at ≡ scan limit manifest s 0
       answer = done-step limit s at ∙ ap (λ (x : ℕ). scan limit (sequence (map counted (later x))) s at) e ∙ sym g.is
 
       front : take 12 new ≡ manifest_starts limit s
@@ -98,14 +99,14 @@ module _ {limit : ℕ} {s old : List ℕ} {n at w : ℕ} {new : List ℕ} (g : R
     pub reading-room : Room s (set new (n - 1) v) at w
     reading-room = record { short = g.room.short; here = g.here; used = g.used; there = omega (arith, g.room.there, g.long, length-set new (n - 1) v) }
 
-    module _ {r : Step} {next : List ℕ} (f : Fills r (scan limit (counted (numbered n)) s at) (starts limit (entry (numbered n)) s (count_at s at) (at + 4)) w (set new (n - 1) v) next) where
+    module _ {r : Stepped} {next : List ℕ} (f : Fills r (scan limit (counted (numbered n)) s at) (starts limit (entry (numbered n)) s (count_at s at) (at + 4)) w (set new (n - 1) v) next) where
       pub reading-long : length next ≡ length old
       reading-long = f.long ∙ length-set new (n - 1) v ∙ g.long
 
-      pub reading-stop : {ps : List ℕ} {q p : ℕ} → r ≡ step.Refused q p → Fills r (scan limit manifest s 0) ps 0 old next
+      pub reading-stop : {ps : List ℕ} {d : Refusal ℕ} → r ≡ Err d → Fills r (scan limit manifest s 0) ps 0 old next
       reading-stop i = fills-stop (i ∙ sym (whole ∙ rw (← f.is, i))) i reading-long
 
-      module _ {e : ℕ} (i : r ≡ step.Next e) where
+      module _ {e : ℕ} (i : r ≡ Ok e) where
         -- a section's bytes: its count, and four at least for each entry
         pub reading-takes : (at + 4 + 4 * count_at s at ≤ e) × (e ≤ length s)
         unfolding scan
@@ -168,5 +169,5 @@ module _ {limit : ℕ} {s old : List ℕ} {n at w : ℕ} {new : List ℕ} (g : R
 pub first-long : (old : List ℕ) → length (set old 0 0) ≡ length old
 first-long old = length-set old 0 0
 
-pub fills-stored : {r answer : Step} {ps : List ℕ} (old : List ℕ) {new : List ℕ} → Fills r answer ps 0 (set old 0 0) new → Fills r answer ps 0 old new
+pub fills-stored : {r answer : Stepped} {ps : List ℕ} (old : List ℕ) {new : List ℕ} → Fills r answer ps 0 (set old 0 0) new → Fills r answer ps 0 old new
 fills-stored old f = record { is = f.is; long = f.long ∙ first-long old; front = f.front }

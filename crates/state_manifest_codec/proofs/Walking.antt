@@ -5,12 +5,10 @@ use mathlib.Core.Path.{◌≡◌, refl, ap, ◌∙◌}
 use mathlib.Core.Bool.{Bool, true, false, cond}
 use mathlib.Core.List.{List, [], ◌++◌}
 use lib.ListN.{length, take, set}
+use Rattle.std.specs.Prelude.{Ok, Err}
+use Rattle.state.specs.declared.Refusal.{Refusal}
 use Rattle.state.specs.Bytes.{span}
-use Rattle.state.specs.Outcome.{field_of, step_of_field}
-use Rattle.state.specs.declared.Step.{Step}
-use Rattle.state.specs.declared.Step.TheVariants as step
-use Rattle.state.specs.declared.Field.{Field}
-use Rattle.state.specs.declared.Field.TheVariants as field
+use Rattle.state.specs.Outcome.{field_of, step_of_field, Stepped, NumberRead, refuses}
 use Rattle.state_wire.specs.Fields.{read_count}
 use Rattle.format.specs.Format.{above, scan}
 use Rattle.format.specs.Manifest.{numbered, counted, entry}
@@ -30,14 +28,14 @@ pub record Walking (limit n : ℕ) (layout : Layout) (s : List ℕ) (at word : �
   pub going : Going (scan limit (counted (numbered n)) s at) limit (numbered n).rule (numbered n).key (numbered n).rest s left p (prior any (span s from to))
   pub filling : Filling limit (entry (numbered n)) s (count_at s at) (at + 4) word old left p w new
 
-module _ (limit n : ℕ) {layout : Layout} (s : List ℕ) (at : ℕ) (l : layout ≡ layout_of (numbered n)) {g : Field} (e : g ≡ field_of (read_count 4 layout.least s at)) where
+module _ (limit n : ℕ) {layout : Layout} (s : List ℕ) (at : ℕ) (l : layout ≡ layout_of (numbered n)) {g : NumberRead} (e : g ≡ field_of (read_count 4 layout.least s at)) where
   count-read : g ≡ field_of (read_count 4 (numbered n).least s at)
   count-read = e ∙ ap (λ (x : Layout). field_of (read_count 4 x.least s at)) l
 
-  pub walk-stop : {x : Step} {word : ℕ} {old : List ℕ} {ps : List ℕ} {q z : ℕ} → g ≡ field.Refused q z → x ≡ step_of_field g → Fills x (scan limit (counted (numbered n)) s at) ps word old old
+  pub walk-stop : {x : Stepped} {word : ℕ} {old : List ℕ} {ps : List ℕ} {d : Refusal ℕ} → g ≡ Err d → x ≡ step_of_field g → Fills x (scan limit (counted (numbered n)) s at) ps word old old
   walk-stop h i = fills-stop (list-stop limit s at 4 (numbered n).least (numbered n).rule (numbered n).key (numbered n).rest count-read h i) (i ∙ ap step_of_field h) refl
 
-  pub walk_start : {word : ℕ} {old : List ℕ} → Room s old at word → {c m : ℕ} → g ≡ field.Value c m → Walking limit n layout s at word old c m false m m word old
+  pub walk_start : {word : ℕ} {old : List ℕ} → Room s old at word → {c m : ℕ} → g ≡ Ok (c, m) → Walking limit n layout s at word old c m false m m word old
   walk_start {word} {old} r {c} {m} h =
       let k = counted-fits s at 4 (numbered n).least count-read h in
       record {
@@ -54,14 +52,14 @@ module _ (limit n : ℕ) {layout : Layout} (s : List ℕ) (at : ℕ) (l : layout
       }
 
 module _ {limit n : ℕ} {layout : Layout} {s : List ℕ} {at word : ℕ} {old : List ℕ} {left p : ℕ} {any : Bool} {from to w : ℕ} {new : List ℕ} (g : Walking limit n layout s at word old left p any from to w new) where
-  pub walk_end : left ≤ 0 → Fills (step.Next p) (scan limit (counted (numbered n)) s at) (starts limit (entry (numbered n)) s (count_at s at) (at + 4)) word old new
+  pub walk_end : left ≤ 0 → Fills (Ok p) (scan limit (counted (numbered n)) s at) (starts limit (entry (numbered n)) s (count_at s at) (at + 4)) word old new
   walk_end h = filling-done g.filling h (going_end g.going h (nothing-more n _))
 
-  module _ (h : 0 < left) {x : Step} (ek : x ≡ scan limit (numbered n).key s p) where
-    pub walk-key-stop : {ps : List ℕ} {q z : ℕ} → x ≡ step.Refused q z → Fills x (scan limit (counted (numbered n)) s at) ps word old new
+  module _ (h : 0 < left) {x : Stepped} (ek : x ≡ scan limit (numbered n).key s p) where
+    pub walk-key-stop : {ps : List ℕ} {d : Refusal ℕ} → x ≡ Err d → Fills x (scan limit (counted (numbered n)) s at) ps word old new
     walk-key-stop i = fills-stop (going-key-stop g.going h ek i) i g.filling.long
 
-    module _ {k : ℕ} (ik : x ≡ step.Next k) where
+    module _ {k : ℕ} (ik : x ≡ Ok k) where
       -- a key has four bytes at least
       pub walk-key : (p + 4 ≤ k) × (k ≤ length s)
       walk-key = let b = next-within limit s (numbered n).key p g.going.here ek ik in (omega (arith, b.0, key-least n), b.1)
@@ -76,18 +74,18 @@ module _ {limit n : ℕ} {layout : Layout} {s : List ℕ} {at word : ℕ} {old :
       }
 
       module _ {b : Bool} (eb : b ≡ cond layout.early (above (span s (p + layout.skip) k) (prior any (span s from to))) true) where
-        pub walk-key-low : {ps : List ℕ} → b ≡ false → Fills (step.Refused 9 k) (scan limit (counted (numbered n)) s at) ps word old new
+        pub walk-key-low : {ps : List ℕ} → b ≡ false → Fills (refuses 9 k) (scan limit (counted (numbered n)) s at) ps word old new
         walk-key-low t = fills-stop (going-key-low g.going h ek ik (early-told n g.laid s p k _ eb t)) refl g.filling.long
 
-        module _ (tb : b ≡ true) {y : Step} {next : List ℕ} (er : Fills y (scan limit (numbered n).rest s k) [] w new next) where
+        module _ (tb : b ≡ true) {y : Stepped} {next : List ℕ} (er : Fills y (scan limit (numbered n).rest s k) [] w new next) where
           pub walk-long : length next ≡ length old
           walk-long = er.long ∙ g.filling.long
 
-          pub walk-rest-stop : {ps : List ℕ} {q z : ℕ} → y ≡ step.Refused q z → Fills y (scan limit (counted (numbered n)) s at) ps word old next
+          pub walk-rest-stop : {ps : List ℕ} {d : Refusal ℕ} → y ≡ Err d → Fills y (scan limit (counted (numbered n)) s at) ps word old next
           walk-rest-stop i = fills-stop (going-rest-stop g.going h ek ik (early-told n g.laid s p k _ eb tb) er.is i) i walk-long
 
-          module _ {e : ℕ} (ir : y ≡ step.Next e) {d : Bool} (ed : d ≡ cond layout.late (above (span s (p + layout.skip) k) (prior any (span s from to))) true) where
-            pub walk-low : {ps : List ℕ} → d ≡ false → Fills (step.Refused 9 e) (scan limit (counted (numbered n)) s at) ps word old next
+          module _ {e : ℕ} (ir : y ≡ Ok e) {d : Bool} (ed : d ≡ cond layout.late (above (span s (p + layout.skip) k) (prior any (span s from to))) true) where
+            pub walk-low : {ps : List ℕ} → d ≡ false → Fills (refuses 9 e) (scan limit (counted (numbered n)) s at) ps word old next
             walk-low t = fills-stop (going-low g.going h ek ik (early-told n g.laid s p k _ eb tb) er.is ir (late-told n g.laid s p k _ ed t)) refl walk-long
 
             pub walk-word : Room s old at word → w < length next

@@ -1,7 +1,6 @@
 -- What the readers promise of the lent index while they fill it: their private contracts.
-use Rattle.std.specs.Prelude.{ℕ, ◌+◌, ◌*◌, ◌≤◌, ◌≡◌, Bool, true, false, List, [], ◌∷◌, ◌++◌, length, take}
-use Rattle.state.specs.declared.Step.{Step}
-use Rattle.state.specs.declared.Step.TheVariants as step
+use Rattle.state.specs.Outcome.{Stepped}
+use Rattle.std.specs.Prelude.{ℕ, ◌+◌, ◌*◌, ◌≤◌, ◌≡◌, Bool, true, false, List, [], ◌∷◌, ◌++◌, length, take, Ok}
 use Rattle.state_wire.specs.Fields.{max_snapshot_bytes}
 
 -- the key before, if there is one
@@ -17,7 +16,7 @@ pub record Room (s index : List ℕ) (at w : ℕ) : Type 0 where
   pub there : 31 + length s ≤ 2 * length index
 
 -- the answer is a definition's; and where it goes on, the words from w on are ps, those before as they were
-pub record Fills (r answer : Step) (ps : List ℕ) (w : ℕ) (old new : List ℕ) : Type 0 where
+pub record Fills (r answer : Stepped) (ps : List ℕ) (w : ℕ) (old new : List ℕ) : Type 0 where
   pub is : r ≡ answer
   pub long : length new ≡ length old
-  pub front : (n : ℕ) → r ≡ step.Next n → take (w + length ps) new ≡ take w old ++ ps
+  pub front : (n : ℕ) → r ≡ Ok n → take (w + length ps) new ≡ take w old ++ ps

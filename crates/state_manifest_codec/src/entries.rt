@@ -15,15 +15,15 @@ pub fn read_block_head(s: &[u8], at: usize) -> Step
     ensures { result ≡ scan max_snapshot_bytes block_head s.now at }
 {
     let class = string(s, at);
-    let Step::Next(k) = class else {
+    let Ok(k) = class else {
         return class;
     };
     let kind = step_of(read_tag(s, k, BlockKind::KNOWN));
-    let Step::Next(r) = kind else {
+    let Ok(r) = kind else {
         return kind;
     };
     let revision = take(s, r, 4);
-    let Step::Next(l) = revision else {
+    let Ok(l) = revision else {
         return revision;
     };
     take(s, l, 8)
@@ -34,19 +34,19 @@ pub fn read_connector_rest(s: &[u8], at: usize) -> Step
     ensures { result ≡ scan max_snapshot_bytes connector_rest s.now at }
 {
     let path = string(s, at);
-    let Step::Next(d) = path else {
+    let Ok(d) = path else {
         return path;
     };
     let order = take(s, d, 4);
-    let Step::Next(t) = order else {
+    let Ok(t) = order else {
         return order;
     };
     let value_type = read_value_type(s, t);
-    let Step::Next(u) = value_type else {
+    let Ok(u) = value_type else {
         return value_type;
     };
     let unit = read_optional_text(s, u);
-    let Step::Next(q) = unit else {
+    let Ok(q) = unit else {
         return unit;
     };
     read_optional_text(s, q)
@@ -57,7 +57,7 @@ pub fn read_connection(s: &[u8], at: usize) -> Step
     ensures { result ≡ scan max_snapshot_bytes (connector_key then connector_key) s.now at }
 {
     let source = read_connector_key(s, at);
-    let Step::Next(target) = source else {
+    let Ok(target) = source else {
         return source;
     };
     read_connector_key(s, target)
@@ -68,7 +68,7 @@ pub fn read_slot_rest(s: &[u8], at: usize) -> Step
     ensures { result ≡ scan max_snapshot_bytes slot_rest s.now at }
 {
     let offset = take(s, at, 8);
-    let Step::Next(length) = offset else {
+    let Ok(length) = offset else {
         return offset;
     };
     take(s, length, 8)
@@ -79,11 +79,11 @@ pub fn read_input_rest(s: &[u8], at: usize) -> Step
     ensures { result ≡ scan max_snapshot_bytes input_rest s.now at }
 {
     let value_type = read_value_type(s, at);
-    let Step::Next(minimum) = value_type else {
+    let Ok(minimum) = value_type else {
         return value_type;
     };
     let bound = read_bound(s, minimum);
-    let Step::Next(maximum) = bound else {
+    let Ok(maximum) = bound else {
         return bound;
     };
     read_bound(s, maximum)

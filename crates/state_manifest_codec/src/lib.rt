@@ -15,8 +15,8 @@ ghost use Rattle.format.specs.Places.{manifest_starts, manifest_entries};
 ghost use Rattle.state_manifest_codec.specs.Tables.{Room, Fills};
 ghost use Rattle.state_manifest_codec.specs.Reads.{Reads};
 
-use state::{MAX_SNAPSHOT_BYTES, Section, Step};
-use state_wire::u32_at;
+use state::{MAX_SNAPSHOT_BYTES, Question, Refusal, Section, Step};
+use state_wire::number_at;
 use tables::{narrow, read_list};
 use values::read_portability;
 
@@ -26,7 +26,7 @@ fn read_sections(s: &[u8], index: &mut [u32]) -> Step
     ensures { Fills result (scan max_snapshot_bytes manifest s.now 0) (manifest_starts max_snapshot_bytes s.now ++ manifest_entries max_snapshot_bytes s.now) 0 index.old index.new }
 {
     let first = read_portability(s, 0);
-    let Step::Next(p) = first else {
+    let Ok(p) = first else {
         return first;
     };
     index[0] = 0;
@@ -36,14 +36,14 @@ fn read_sections(s: &[u8], index: &mut [u32]) -> Step
     while section <= Section::INPUT_DEFINITIONS {
         index[section as usize - 1] = narrow(at);
         let list = read_list(s, section, at, index, word);
-        let Step::Next(e) = list else {
+        let Ok(e) = list else {
             return list;
         };
-        word += u32_at(s, at) as usize;
+        word += number_at::<4>(s, at) as usize;
         at = e;
         section += 1;
     }
-    Step::Next(at)
+    Ok(at)
 }
 
 // Questions 1 to 10 of a manifest, with an index of any length.
@@ -51,19 +51,28 @@ pub fn read_manifest(s: &[u8], index: &mut [u32]) -> Step
     ensures { Reads s.now result index.old index.new }
 {
     if MAX_SNAPSHOT_BYTES < s.len() {
-        return Step::Refused(1, 0);
+        return Err(Refusal {
+            question: Question(1),
+            at: 0,
+        });
     }
     let words = s.len() / 2 + 16;
     if index.len() < words {
-        return Step::Refused(2, 0);
+        return Err(Refusal {
+            question: Question(2),
+            at: 0,
+        });
     }
     let sections = read_sections(s, &mut index[..words]);
-    let Step::Next(e) = sections else {
+    let Ok(e) = sections else {
         return sections;
     };
     if e == s.len() {
-        Step::Next(e)
+        Ok(e)
     } else {
-        Step::Refused(10, e)
+        Err(Refusal {
+            question: Question(10),
+            at: e,
+        })
     }
 }

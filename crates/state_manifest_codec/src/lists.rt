@@ -8,16 +8,16 @@ ghost use Rattle.format.specs.Manifest.{params, connector_keys};
 ghost use Rattle.state_manifest_codec.specs.Tables.{prior};
 
 use crate::values::read_value;
-use state::{Field, Step};
+use state::{Field, Question, Refusal, Step};
 use state_key_order::{precedes, read_connector_key};
-use state_wire::{bounded_count, part, read_u32, step_of, string};
+use state_wire::{bounded_count, part, read_number, step_of, string};
 
 // A count whose entries have at least so many bytes each.
 pub fn read_count(s: &[u8], at: usize, least: u64) -> Field
     ensures { result ≡ field_of (read_count 4 least s.now at) }
 {
-    let count = read_u32(s, at);
-    let Field::Value(n, next) = count else {
+    let count = read_number::<4>(s, at);
+    let Ok((n, next)) = count else {
         return count;
     };
     bounded_count(s, next, n, least)
@@ -49,20 +49,20 @@ pub fn read_connector_keys(s: &[u8], at: usize) -> Step
     ensures { result ≡ scan max_snapshot_bytes connector_keys s.now at }
 {
     let count = read_count(s, at, 10);
-    let Field::Value(n, first) = count else {
+    let Ok((n, first)) = count else {
         return step_of(count);
     };
     let mut left = n;
     let mut p = first;
     while 0 < left {
         let key = read_connector_key(s, p);
-        let Step::Next(e) = key else {
+        let Ok(e) = key else {
             return key;
         };
         p = e;
         left -= 1;
     }
-    Step::Next(p)
+    Ok(p)
 }
 
 // A block's parameters.
@@ -70,7 +70,7 @@ pub fn read_parameters(s: &[u8], at: usize) -> Step
     ensures { result ≡ scan max_snapshot_bytes params s.now at }
 {
     let count = read_count(s, at, 6);
-    let Field::Value(n, first) = count else {
+    let Ok((n, first)) = count else {
         return step_of(count);
     };
     let mut left = n;
@@ -80,11 +80,11 @@ pub fn read_parameters(s: &[u8], at: usize) -> Step
     let mut to = first;
     while 0 < left {
         let name = string(s, p);
-        let Step::Next(k) = name else {
+        let Ok(k) = name else {
             return name;
         };
         let value = read_value(s, k);
-        let Step::Next(e) = value else {
+        let Ok(e) = value else {
             return value;
         };
         if key_above(s, true, any, from, to, p + 4, k) {
@@ -94,8 +94,11 @@ pub fn read_parameters(s: &[u8], at: usize) -> Step
             p = e;
             left -= 1;
         } else {
-            return Step::Refused(9, e);
+            return Err(Refusal {
+                question: Question(9),
+                at: e,
+            });
         }
     }
-    Step::Next(p)
+    Ok(p)
 }

@@ -11,7 +11,7 @@ use crate::entries::{
 };
 use crate::layouts::layout_of;
 use crate::lists::{key_above, read_connector_keys, read_count, read_parameters};
-use state::{Field, Section, Step};
+use state::{Question, Refusal, Section, Step};
 use state_index::all_distinct;
 use state_key_order::{read_block_key, read_connector_key};
 use state_wire::{step_of, string};
@@ -34,7 +34,7 @@ fn read_names(s: &[u8], at: usize, count: u64, index: &mut [u32], word: usize) -
     let mut w = word;
     while 0 < left {
         let name = string(s, p);
-        let Step::Next(e) = name else {
+        let Ok(e) = name else {
             return name;
         };
         index[w] = narrow(p);
@@ -42,7 +42,7 @@ fn read_names(s: &[u8], at: usize, count: u64, index: &mut [u32], word: usize) -
         p = e;
         left -= 1;
     }
-    Step::Next(p)
+    Ok(p)
 }
 
 // A class's members, all different. The words from `word` on are scratch.
@@ -51,17 +51,20 @@ fn read_members(s: &[u8], at: usize, index: &mut [u32], word: usize) -> Step
     ensures { Fills result (scan max_snapshot_bytes members s.now at) [] word index.old index.new }
 {
     let count = read_count(s, at, 4);
-    let Field::Value(n, first) = count else {
+    let Ok((n, first)) = count else {
         return step_of(count);
     };
     let names = read_names(s, first, n, index, word);
-    let Step::Next(e) = names else {
+    let Ok(e) = names else {
         return names;
     };
     if all_distinct(s, index, word, n as usize) {
-        Step::Next(e)
+        Ok(e)
     } else {
-        Step::Refused(8, e)
+        Err(Refusal {
+            question: Question(8),
+            at: e,
+        })
     }
 }
 
@@ -70,15 +73,15 @@ fn read_block_rest(s: &[u8], at: usize) -> Step
     ensures { result ≡ scan max_snapshot_bytes block_rest s.now at }
 {
     let head = read_block_head(s, at);
-    let Step::Next(p) = head else {
+    let Ok(p) = head else {
         return head;
     };
     let params = read_parameters(s, p);
-    let Step::Next(i) = params else {
+    let Ok(i) = params else {
         return params;
     };
     let inputs = read_connector_keys(s, i);
-    let Step::Next(o) = inputs else {
+    let Ok(o) = inputs else {
         return inputs;
     };
     read_connector_keys(s, o)
@@ -133,7 +136,7 @@ fn read_rest(s: &[u8], section: u8, at: usize, index: &mut [u32], word: usize) -
         return read_connector_rest(s, at);
     }
     if section <= Section::CONNECTOR_ORDER {
-        return Step::Next(at);
+        return Ok(at);
     }
     if section <= Section::DRIVER_OF {
         return read_connector_key(s, at);
@@ -142,7 +145,7 @@ fn read_rest(s: &[u8], section: u8, at: usize, index: &mut [u32], word: usize) -
         return read_slot_rest(s, at);
     }
     if section <= Section::EXTERNAL_INPUTS {
-        return Step::Next(at);
+        return Ok(at);
     }
     if section <= Section::BOUNDARY_OUTPUTS {
         return read_connector_key(s, at);
@@ -157,7 +160,7 @@ pub fn read_list(s: &[u8], section: u8, at: usize, index: &mut [u32], word: usiz
 {
     let layout = layout_of(section);
     let count = read_count(s, at, layout.least);
-    let Field::Value(n, first) = count else {
+    let Ok((n, first)) = count else {
         return step_of(count);
     };
     let mut left = n;
@@ -168,19 +171,25 @@ pub fn read_list(s: &[u8], section: u8, at: usize, index: &mut [u32], word: usiz
     let mut to = first;
     while 0 < left {
         let key = read_key(s, section, p);
-        let Step::Next(k) = key else {
+        let Ok(k) = key else {
             return key;
         };
         let a = p + layout.skip;
         if !key_above(s, layout.early, any, from, to, a, k) {
-            return Step::Refused(9, k);
+            return Err(Refusal {
+                question: Question(9),
+                at: k,
+            });
         }
         let rest = read_rest(s, section, k, index, w);
-        let Step::Next(e) = rest else {
+        let Ok(e) = rest else {
             return rest;
         };
         if !key_above(s, layout.late, any, from, to, a, k) {
-            return Step::Refused(9, e);
+            return Err(Refusal {
+                question: Question(9),
+                at: e,
+            });
         }
         index[w] = narrow(p);
         w += 1;
@@ -190,5 +199,5 @@ pub fn read_list(s: &[u8], section: u8, at: usize, index: &mut [u32], word: usiz
         p = e;
         left -= 1;
     }
-    Step::Next(p)
+    Ok(p)
 }

@@ -4,43 +4,43 @@ ghost use Rattle.state_wire.specs.Fields.{max_snapshot_bytes};
 ghost use Rattle.format.specs.Format.{scan, text, ◌then◌};
 ghost use Rattle.format.specs.Manifest.{value, value_type, optional, portability};
 
-use state::{Field, Portability, Step, WireValueType};
+use state::{Portability, Step, WireValueType};
 use state_wire::{read_tag, step_of, string, take};
 
 pub fn read_value_type(s: &[u8], at: usize) -> Step
     ensures { result ≡ scan max_snapshot_bytes value_type s.now at }
 {
     let tag = read_tag(s, at, WireValueType::KNOWN);
-    let Field::Value(t, next) = tag else {
+    let Ok((t, next)) = tag else {
         return step_of(tag);
     };
-    if t == WireValueType::ENUM as u64 {
+    if t == WireValueType::ENUM {
         return string(s, next);
     }
-    Step::Next(next)
+    Ok(next)
 }
 
 pub fn read_value(s: &[u8], at: usize) -> Step
     ensures { result ≡ scan max_snapshot_bytes value s.now at }
 {
     let tag = read_tag(s, at, WireValueType::KNOWN);
-    let Field::Value(t, next) = tag else {
+    let Ok((t, next)) = tag else {
         return step_of(tag);
     };
-    if t == WireValueType::REAL as u64 {
+    if t == WireValueType::REAL {
         return take(s, next, 8);
     }
-    if t == WireValueType::INTEGER as u64 {
+    if t == WireValueType::INTEGER {
         return take(s, next, 8);
     }
-    if t == WireValueType::BOOLEAN as u64 {
+    if t == WireValueType::BOOLEAN {
         return step_of(read_tag(s, next, 2));
     }
     let text = string(s, next);
-    if t == WireValueType::STRING as u64 {
+    if t == WireValueType::STRING {
         return text;
     }
-    let Step::Next(ordinal) = text else {
+    let Ok(ordinal) = text else {
         return text;
     };
     take(s, ordinal, 4)
@@ -51,11 +51,11 @@ pub fn read_optional_text(s: &[u8], at: usize) -> Step
     ensures { result ≡ scan max_snapshot_bytes (optional text) s.now at }
 {
     let tag = read_tag(s, at, 2);
-    let Field::Value(t, next) = tag else {
+    let Ok((t, next)) = tag else {
         return step_of(tag);
     };
     if t == 0 {
-        return Step::Next(next);
+        return Ok(next);
     }
     string(s, next)
 }
@@ -65,11 +65,11 @@ pub fn read_bound(s: &[u8], at: usize) -> Step
     ensures { result ≡ scan max_snapshot_bytes (optional value) s.now at }
 {
     let tag = read_tag(s, at, 2);
-    let Field::Value(t, next) = tag else {
+    let Ok((t, next)) = tag else {
         return step_of(tag);
     };
     if t == 0 {
-        return Step::Next(next);
+        return Ok(next);
     }
     read_value(s, next)
 }
@@ -79,14 +79,14 @@ pub fn read_portability(s: &[u8], at: usize) -> Step
     ensures { result ≡ scan max_snapshot_bytes portability s.now at }
 {
     let tag = read_tag(s, at, Portability::KNOWN);
-    let Field::Value(t, next) = tag else {
+    let Ok((t, next)) = tag else {
         return step_of(tag);
     };
-    if t == Portability::PORTABLE as u64 {
-        return Step::Next(next);
+    if t == Portability::PORTABLE {
+        return Ok(next);
     }
     let arch = string(s, next);
-    let Step::Next(os) = arch else {
+    let Ok(os) = arch else {
         return arch;
     };
     string(s, os)

@@ -18,7 +18,7 @@ pub returns-in_default : goal.returns-in_default
 returns-in_default c = sections-stop _ _ c.if-s-gt-MAX_SNAPSHOT_BYTES.false c.if-index-words.false c.read_sections-sections.ensures c.in_default.is
 
 pub returns-then-e-s : goal.returns-then-e-s
-returns-then-e-s c = all_read _ _ c.if-s-gt-MAX_SNAPSHOT_BYTES.false c.if-index-words.false c.read_sections-sections.ensures c.in-Next.is c.if-e-s.true
+returns-then-e-s c = all_read _ _ c.if-s-gt-MAX_SNAPSHOT_BYTES.false c.if-index-words.false c.read_sections-sections.ensures c.in-Ok.is c.if-e-s.true
 
 pub returns-else-e-s : goal.returns-else-e-s
-returns-else-e-s c = left_over _ _ c.if-s-gt-MAX_SNAPSHOT_BYTES.false c.if-index-words.false c.read_sections-sections.ensures c.in-Next.is c.if-e-s.false
+returns-else-e-s c = left_over _ _ c.if-s-gt-MAX_SNAPSHOT_BYTES.false c.if-index-words.false c.read_sections-sections.ensures c.in-Ok.is c.if-e-s.false

@@ -11,7 +11,7 @@ pub bounds-index-0 : goal.bounds-index-0
 bounds-index-0 c = omega (arith, c.requires.there)
 
 pub loop-section-init : goal.loop-section-init
-loop-section-init c = reading-start c.requires c.read_portability-first.ensures c.in-Next.is
+loop-section-init c = reading-start c.requires c.read_portability-first.ensures c.in-Ok.is
 
 pub narrow-requires : goal.narrow-requires
 narrow-requires c = omega (arith, c.loop-section.invariant.here, c.requires.short)
@@ -34,11 +34,11 @@ shape_of-index-in_default-list c = reading-long c.loop-section.invariant c.loop-
 pub returns-in_default-list : goal.returns-in_default-list
 returns-in_default-list c = fills-stored _ (reading-stop c.loop-section.invariant c.loop-section-test.true c.narrow.ensures c.read_list-list.ensures c.in_default-list.is)
 
-pub u32_at-requires : goal.u32_at-requires
-u32_at-requires c = let t = reading-takes c.loop-section.invariant c.loop-section-test.true c.narrow.ensures c.read_list-list.ensures c.in-Next-list.is in omega (arith, t.0, t.1)
+pub number_at-requires-clause-fits : goal.number_at-requires-clause-fits
+number_at-requires-clause-fits c = let t = reading-takes c.loop-section.invariant c.loop-section-test.true c.narrow.ensures c.read_list-list.ensures c.in-Ok-list.is in omega (arith, t.0, t.1)
 
 pub overflow_add-word : goal.overflow_add-word
-overflow_add-word c = let t = reading-takes c.loop-section.invariant c.loop-section-test.true c.narrow.ensures c.read_list-list.ensures c.in-Next-list.is in omega (arith, t.0, t.1, c.loop-section.invariant.used, c.u32_at.ensures, c.requires.short)
+overflow_add-word c = let t = reading-takes c.loop-section.invariant c.loop-section-test.true c.narrow.ensures c.read_list-list.ensures c.in-Ok-list.is in omega (arith, t.0, t.1, c.loop-section.invariant.used, c.number_at.ensures, c.requires.short)
 
 pub overflow_add-section : goal.overflow_add-section
 overflow_add-section c = omega arith
@@ -47,7 +47,7 @@ pub loop-section-smaller : goal.loop-section-smaller
 loop-section-smaller c = omega arith
 
 pub loop-section-preserved : goal.loop-section-preserved
-loop-section-preserved c = reading-on c.loop-section.invariant c.loop-section-test.true c.narrow.ensures c.read_list-list.ensures c.in-Next-list.is c.u32_at.ensures
+loop-section-preserved c = reading-on c.loop-section.invariant c.loop-section-test.true c.narrow.ensures c.read_list-list.ensures c.in-Ok-list.is c.number_at.ensures
 
 pub shape_of-index : goal.shape_of-index
 shape_of-index c = c.loop-section.invariant.long ∙ first-long c.args.index.now

@@ -34,7 +34,7 @@ pub loop-left-smaller : goal.loop-left-smaller
 loop-left-smaller c = omega arith
 
 pub loop-left-preserved : goal.loop-left-preserved
-loop-left-preserved c = (going-free c.loop-left.invariant.0 c.loop-left-test.true (text-step _ _ _ c.string-name.ensures) c.in-Next.is, filling-on c.loop-left.invariant.1 c.loop-left-test.true _ refl refl (filling-room c.loop-left.invariant.1 c.requires c.loop-left.invariant.0.here) (entry-end _ _ _ _ _ (text-step _ _ _ c.string-name.ensures) c.in-Next.is (done-step _ _ _) refl) (omega (arith, (text-ends _ _ _ c.string-name.ensures c.in-Next.is).0)) c.narrow.ensures)
+loop-left-preserved c = (going-free c.loop-left.invariant.0 c.loop-left-test.true (text-step _ _ _ c.string-name.ensures) c.in-Ok.is, filling-on c.loop-left.invariant.1 c.loop-left-test.true _ refl refl (filling-room c.loop-left.invariant.1 c.requires c.loop-left.invariant.0.here) (entry-end _ _ _ _ _ (text-step _ _ _ c.string-name.ensures) c.in-Ok.is (done-step _ _ _) refl) (omega (arith, (text-ends _ _ _ c.string-name.ensures c.in-Ok.is).0)) c.narrow.ensures)
 
 pub shape_of-index : goal.shape_of-index
 shape_of-index c = c.loop-left.invariant.1.long

@@ -6,9 +6,9 @@ pub returns-in_default : goal.returns-in_default
 unfolding portability
 returns-in_default c = search steps
 
-pub returns-then-t : goal.returns-then-t
+pub returns-then-t-eq-PORTABLE : goal.returns-then-t-eq-PORTABLE
 unfolding portability
-returns-then-t c = search steps
+returns-then-t-eq-PORTABLE c = search steps
 
 pub returns-in_default-arch : goal.returns-in_default-arch
 unfolding portability

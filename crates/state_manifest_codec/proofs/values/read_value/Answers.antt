@@ -8,26 +8,26 @@ pub returns-in_default : goal.returns-in_default
 unfolding value
 returns-in_default c = search steps
 
-pub returns-then-t : goal.returns-then-t
+pub returns-then-t-eq-REAL : goal.returns-then-t-eq-REAL
 unfolding value
-returns-then-t c = search steps
+returns-then-t-eq-REAL c = search steps
 
-pub returns-then-t-2 : goal.returns-then-t-2
+pub returns-then-t-eq-INTEGER : goal.returns-then-t-eq-INTEGER
 unfolding value
-returns-then-t-2 c = search steps
+returns-then-t-eq-INTEGER c = search steps
 
-pub returns-then-t-3 : goal.returns-then-t-3
+pub returns-then-t-eq-BOOLEAN : goal.returns-then-t-eq-BOOLEAN
 unfolding value
-returns-then-t-3 c = search steps
+returns-then-t-eq-BOOLEAN c = search steps
 
-pub returns-then-t-4 : goal.returns-then-t-4
+pub returns-then-t-eq-STRING : goal.returns-then-t-eq-STRING
 unfolding value
-returns-then-t-4 c = search steps
+returns-then-t-eq-STRING c = search steps
 
 pub returns-in_default-text : goal.returns-in_default-text
 unfolding value
-returns-in_default-text c = let e = fifth _ (tag_below _ _ _ c.read_tag-tag.ensures c.in-Value.is) c.if-t.false c.if-t-2.false c.if-t-3.false c.if-t-4.false in search steps
+returns-in_default-text c = let e = fifth _ (tag_below _ _ _ c.read_tag-tag.ensures c.in-Ok.is) c.if-t-eq-REAL.false c.if-t-eq-INTEGER.false c.if-t-eq-BOOLEAN.false c.if-t-eq-STRING.false in search steps
 
 pub returns : goal.returns
 unfolding value
-returns c = let e = fifth _ (tag_below _ _ _ c.read_tag-tag.ensures c.in-Value.is) c.if-t.false c.if-t-2.false c.if-t-3.false c.if-t-4.false in search steps
+returns c = let e = fifth _ (tag_below _ _ _ c.read_tag-tag.ensures c.in-Ok.is) c.if-t-eq-REAL.false c.if-t-eq-INTEGER.false c.if-t-eq-BOOLEAN.false c.if-t-eq-STRING.false in search steps

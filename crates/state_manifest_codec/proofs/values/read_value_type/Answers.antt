@@ -10,10 +10,10 @@ pub returns-in_default : goal.returns-in_default
 unfolding value_type
 returns-in_default c = search steps
 
-pub returns-then-t : goal.returns-then-t
+pub returns-then-t-eq-ENUM : goal.returns-then-t-eq-ENUM
 unfolding value_type
-returns-then-t c = search steps
+returns-then-t-eq-ENUM c = search steps
 
 pub returns : goal.returns
 unfolding value_type
-returns c = tagged-as _ _ _ 5 _ done c.read_tag-tag.ensures c.in-Value.is (bare-type _ (tag_below _ _ _ c.read_tag-tag.ensures c.in-Value.is) c.if-t.false) (done-step _ _ _)
+returns c = tagged-as _ _ _ 5 _ done c.read_tag-tag.ensures c.in-Ok.is (bare-type _ (tag_below _ _ _ c.read_tag-tag.ensures c.in-Ok.is) c.if-t-eq-ENUM.false) (done-step _ _ _)
