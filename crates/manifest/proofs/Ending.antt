@@ -9,15 +9,15 @@ use lib.ListN.{length, get_or, take, drop, replicate}
 use lib.Seq.{drop-length}
 use lib.Dec.{eqb}
 use borrow.Author.Tests.{le-leb, lt-leb, eq-eqb, ne_eqb, eqb-true}
-use Rattle.state.specs.Outcome.{refused, offset_of}
-use Rattle.state.specs.declared.Step.{Step}
-use Rattle.state.specs.declared.Step.TheVariants as step
-use Rattle.state.specs.declared.Decoded.{Decoded}
+use Rattle.state.specs.Outcome.{refused, offset_of, refusal, Stepped}
+use Rattle.std.specs.Prelude.{Ok, Err}
+use Rattle.state.specs.declared.Refusal.{Refusal}
+use Rattle.state.specs.declared.Starts.{Starts}
 use Rattle.state.proofs.Outcome.{step-refused, step-yields, always}
 use Rattle.state_wire.specs.Fields.{max_snapshot_bytes}
 use Rattle.format.specs.Places.{manifest_starts}
 use Rattle.questions.specs.Portability.{target_bound_classes}
-use Rattle.questions.specs.Answers.{judge, offset_at, refusal, acceptance, decode_manifest, decoded_index}
+use Rattle.questions.specs.Answers.{judge, offset_at, outside, starts_of, decode_manifest, decoded_index}
 use Rattle.manifest.specs.Judges.{Judges}
 use Rattle.manifest.proofs.Judging.{tabled-starts}
 
@@ -49,27 +49,27 @@ pub left_alone : (old : List ℕ) (q : ℕ) → q ≡ 2 → old ≡ cond (eqb q 
 left_alone old q e = rw (eq-eqb q 2 e)
 
 -- ---- the answer and the index at the end of a call
-module _ {s old mid : List ℕ} {revision : ℕ} {r : Step} (j : Judges s revision r old mid) where
+module _ {s old mid : List ℕ} {revision : ℕ} {r : Stepped} (j : Judges s revision r old mid) where
   -- what a refusal leaves does not depend on the words that were written
-  pub refusal-leaves : {q p : ℕ} → r ≡ step.Refused q p → cond (eqb q 2) mid (replicate (length mid) 0) ≡ cond (eqb q 2) old (replicate (length old) 0)
-  refusal-leaves {q} {p} e = go (eqb q 2) refl
+  pub refusal-leaves : {d : Refusal ℕ} → r ≡ Err d → cond (eqb d.question.0 2) mid (replicate (length mid) 0) ≡ cond (eqb d.question.0 2) old (replicate (length old) 0)
+  refusal-leaves {d = d} e = go (eqb d.question.0 2) refl
     where
-      go : (b : Bool) → eqb q 2 ≡ b → cond b mid (replicate {A = ℕ} (length mid) 0) ≡ cond b old (replicate (length old) 0)
-      go true h = j.untouched p (e ∙ ap (λ (n : ℕ). step.Refused n p) (eqb-true q 2 h))
+      go : (b : Bool) → eqb d.question.0 2 ≡ b → cond b mid (replicate {A = ℕ} (length mid) 0) ≡ cond b old (replicate (length old) 0)
+      go true h = j.untouched d.at (e ∙ ap (λ (n : ℕ). Err (refusal n d.at)) (eqb-true d.question.0 2 h))
       go false h = ap (λ (n : ℕ). replicate n 0) j.long
 
   module _ (base : ℕ) where
-    pub ends-refused : {q p : ℕ} → r ≡ step.Refused q p → {d : Decoded} {new : List ℕ} → d ≡ refusal base q p → new ≡ cond (eqb q 2) mid (replicate (length mid) 0)
-        → (d ≡ decode_manifest target_bound_classes s base revision old) × (new ≡ decoded_index target_bound_classes s revision old)
+    pub ends-refused : {d : Refusal ℕ} → r ≡ Err d → {x : Refusal ℕ} {new : List ℕ} → x ≡ outside base d → new ≡ cond (eqb d.question.0 2) mid (replicate (length mid) 0)
+        → (Err x ≡ decode_manifest target_bound_classes s base revision old) × (new ≡ decoded_index target_bound_classes s revision old)
     unfolding decode_manifest decoded_index
-    ends-refused {q} {p} e a b =
-        let o : judge target_bound_classes revision s (length old) ≡ refused q p = step-refused (judge target_bound_classes revision s (length old)) j.is e in
-        (a ∙ rw o, b ∙ rw o (refusal-leaves e))
+    ends-refused {d = d} e a b =
+        let o : judge target_bound_classes revision s (length old) ≡ refused d.question.0 d.at = step-refused (judge target_bound_classes revision s (length old)) j.is e in
+        (rw (o, a), b ∙ rw o (refusal-leaves e))
 
-    pub ends-accepted : {n : ℕ} → r ≡ step.Next n → {d : Decoded} {new : List ℕ} → d ≡ acceptance (take 12 mid) → new ≡ take 12 mid ++ replicate (length mid - 12) 0
-        → (d ≡ decode_manifest target_bound_classes s base revision old) × (new ≡ decoded_index target_bound_classes s revision old)
+    pub ends-accepted : {n : ℕ} → r ≡ Ok n → {x : Starts} {new : List ℕ} → x ≡ starts_of (take 12 mid) → new ≡ take 12 mid ++ replicate (length mid - 12) 0
+        → (Ok x ≡ decode_manifest target_bound_classes s base revision old) × (new ≡ decoded_index target_bound_classes s revision old)
     unfolding decode_manifest decoded_index
     ends-accepted {n} e a b =
         let y = step-yields (always (judge target_bound_classes revision s (length old))) j.is e in
         let f : take 12 mid ≡ manifest_starts max_snapshot_bytes s = (tabled-starts (j.tabled n e)).1 in
-        (a ∙ rw (y.1, f), b ∙ rw (y.1, f, j.long))
+        (rw (y.1, a, f), b ∙ rw (y.1, f, j.long))

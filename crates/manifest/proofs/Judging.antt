@@ -7,9 +7,10 @@ use lib.ListN.{length, take, length-append}
 use lib.Seq.{take_at, take-take}
 use borrow.Author.Tests.{le-leb}
 use Rattle.state.specs.Bytes.{AreBytes}
-use Rattle.state.specs.Outcome.{got, refused, heed}
-use Rattle.state.specs.declared.Step.{Step}
-use Rattle.state.specs.declared.Step.TheVariants as step
+use Rattle.std.specs.Prelude.{Ok, Err}
+use Rattle.state.specs.Outcome.{got, refused, heed, said, refusal, Stepped}
+use Rattle.state.specs.declared.Question.{Question}
+use Rattle.state.specs.declared.Refusal.{Refusal}
 use Rattle.state.proofs.Outcome.{heed-no, step-refused, step-yields}
 use Rattle.state_wire.specs.Fields.{max_snapshot_bytes}
 use Rattle.format.specs.Format.{El}
@@ -23,6 +24,7 @@ use Rattle.questions.specs.Sets.{sum}
 use Rattle.questions.specs.Portability.{target_bound_classes}
 use Rattle.questions.specs.Order.{first_failing}
 use Rattle.questions.specs.Answers.{judge}
+use Rattle.questions.proofs.Chains.{said-no, said-yes}
 use Rattle.questions.proofs.Accepted.{Passed, yields-passed}
 use Rattle.questions.proofs.Numbers.{late-failing}
 use Rattle.state_layout.specs.Tables.{manifest_of, counts, table_start, room_start, Tabled, Leaves}
@@ -58,7 +60,7 @@ module _ (s : List ℕ) (w : Well limit manifest s 0) where
   words_long = length-append (manifest_starts limit s) (manifest_entries limit s) ∙ rw entries-long
 
 -- ---- a manifest that was read
-module _ {s old new : List ℕ} {n : ℕ} (bytes : AreBytes s) {r : Step} (reads : Reads s r old new) (next : r ≡ step.Next n) where
+module _ {s old new : List ℕ} {n : ℕ} (bytes : AreBytes s) {r : Stepped} (reads : Reads s r old new) (next : r ≡ Ok n) where
   passed : (v : El manifest) × (read_manifest limit s (length old) ≡ got v n) × Passed s (length old) v n
   passed = step-yields (yields-passed s (length old)) reads.is next
 
@@ -91,41 +93,44 @@ tabled-starts {s} {index} t =
       sym (take-take 12 (room_start s) index f) ∙ ap (take 12) t.words ∙ take_at (manifest_starts limit s) (manifest_entries limit s) 12 (starts-twelve t),
     )
 
-module _ {s old new : List ℕ} (revision : ℕ) {r : Step} (reads : Reads s r old new) where
+module _ {s old new : List ℕ} (revision : ℕ) {r : Stepped} (reads : Reads s r old new) where
   -- refused while reading
-  pub judge-unread : {q p : ℕ} → r ≡ step.Refused q p → Judges s revision r old new
+  pub judge-unread : {d : Refusal ℕ} → r ≡ Err d → Judges s revision r old new
   unfolding judge
-  judge-unread {q} {p} e =
-      let o : read_manifest limit s (length old) ≡ refused q p = step-refused (read_manifest limit s (length old)) reads.is e in
+  judge-unread {d = d} e =
+      let o : read_manifest limit s (length old) ≡ refused d.question.0 d.at = step-refused (read_manifest limit s (length old)) reads.is e in
       record {
         is = e ∙ rw o;
-        tabled = λ n i. let z : ◌≡◌ {A = ℕ} 0 1 = cc (sym e ∙ i) in absurd (omega arith);
-        untouched = λ x i. reads.untouched q p e (let z : q ≡ 2 = cc (sym e ∙ i) in omega (arith, z));
+        tabled = λ n i. cc (sym e ∙ i);
+        untouched = λ p i. reads.untouched p i;
         long = reads.long;
       }
 
-  module _ (bytes : AreBytes s) {n : ℕ} (next : r ≡ step.Next n) {q : ℕ} (asks : q ≡ first_failing target_bound_classes revision (manifest_of s)) {last : List ℕ} (leaves : Leaves s new last) where
-    judge-is : judge target_bound_classes revision s (length old) ≡ heed q n (got (manifest_of s) n)
+  module _ (bytes : AreBytes s) {n : ℕ} (next : r ≡ Ok n) {last : List ℕ} (leaves : Leaves s new last) where
+    judge-is : judge target_bound_classes revision s (length old) ≡ heed (first_failing target_bound_classes revision (manifest_of s)) n (got (manifest_of s) n)
     unfolding judge
-    judge-is = rw (read_is bytes reads next, asks)
+    judge-is = rw (read_is bytes reads next)
 
     -- refused by a question over the whole
-    pub judge-no : (q ≡ 0 → ⊥) → Judges s revision (step.Refused q n) old last
-    judge-no h = record {
-      is = rw judge-is (heed-no q n _ h);
-      tabled = λ k i. let z : ◌≡◌ {A = ℕ} 0 1 = cc in absurd (omega arith);
-      untouched = λ x i. let z : q ≡ 2 = cc i in absurd (omega (arith, z, late));
+    pub judge-no : {d : Question} → Err d ≡ said (first_failing target_bound_classes revision (manifest_of s)) → Judges s revision (Err (record { question = d; at = n })) old last
+    judge-no {d = d} asks = record {
+      is = rw judge-is (ap (λ (x : ℕ). Err (refusal x n)) (sym no.0) ∙ heed-no (first_failing target_bound_classes revision (manifest_of s)) n _ no.1);
+      tabled = λ k i. cc;
+      untouched = λ x i. let z : d.0 ≡ 2 = cc i in absurd (omega (arith, z, late, no.0));
       long = leaves.long ∙ reads.long;
     }
       where
-        late : 11 ≤ q
-        late = rw asks (late-failing target_bound_classes revision (manifest_of s) (λ e. h (asks ∙ e)))
+        no : (first_failing target_bound_classes revision (manifest_of s) ≡ d.0) × (first_failing target_bound_classes revision (manifest_of s) ≡ 0 → ⊥)
+        no = said-no (first_failing target_bound_classes revision (manifest_of s)) (sym asks)
+
+        late : 11 ≤ first_failing target_bound_classes revision (manifest_of s)
+        late = late-failing target_bound_classes revision (manifest_of s) no.1
 
     -- accepted
-    pub judge-yes : q ≡ 0 → Judges s revision (step.Next n) old last
-    judge-yes h = record {
-      is = rw (judge-is, h);
+    pub judge-yes : {u : Unit} → Ok u ≡ said (first_failing target_bound_classes revision (manifest_of s)) → Judges s revision (Ok n) old last
+    judge-yes asks = record {
+      is = rw (judge-is, said-yes (first_failing target_bound_classes revision (manifest_of s)) (sym asks));
       tabled = λ k i. leaves.tabled;
-      untouched = λ x i. let z : ◌≡◌ {A = ℕ} 0 1 = cc in absurd (omega arith);
+      untouched = λ x i. cc;
       long = leaves.long ∙ reads.long;
     }

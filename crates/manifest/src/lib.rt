@@ -3,23 +3,24 @@
 
 ghost use Rattle.std.specs.Prelude.{◌≡◌, cond, ◌++◌, ◌-◌, ◌≤◌, eqb, length, take, replicate};
 ghost use Rattle.questions.specs.Portability.{target_bound_classes};
-ghost use Rattle.questions.specs.Answers.{offset_at, starts_of, refusal, acceptance, decode_manifest, decoded_index};
+ghost use Rattle.questions.specs.Answers.{offset_at, outside, starts_of, decode_manifest, decoded_index};
 ghost use Rattle.manifest.specs.Judges.{Judges};
 
-use state::{Answer, Decoded, Starts, Step};
+use state::{Decoded, Refusal, Starts, Step};
 use state_index::clear;
 use state_manifest_codec::read_manifest;
 use state_manifest_validation::validate_manifest;
 use state_wire::offset;
 
 // Where a refusal stands outside: questions 1 and 2 at 0, the others from the base on.
-fn offset_at(base: u64, question: u8, position: usize) -> u64
-    ensures { result ≡ offset_at base question position }
+fn offset_at(base: u64, refusal: Refusal<usize>) -> u64
+    ensures { result ≡ offset_at base refusal.question.0 refusal.at }
 {
-    if question <= 2 {
-        return 0;
+    if refusal.question.0 <= 2 {
+        0
+    } else {
+        offset(base, refusal.at)
     }
-    offset(base, position)
 }
 
 // The first twelve words in one record.
@@ -28,38 +29,33 @@ fn starts_of(index: &[u32]) -> Starts
     ensures { result ≡ starts_of (take 12 index.now) }
 {
     Starts {
-        at: [
-            index[0], index[1], index[2], index[3], index[4], index[5], index[6], index[7],
-            index[8], index[9], index[10], index[11],
-        ],
+        at: *index.first_chunk().unwrap(),
     }
 }
 
 // A refusal: the index is cleared but after question 2.
-pub fn refused(base: u64, question: u8, position: usize, index: &mut [u32]) -> Decoded
-    ensures value { result ≡ refusal base question position }
-    ensures index_after { index.new ≡ cond (eqb question 2) index.old (replicate (length index.old) 0) }
+pub fn refused(base: u64, refusal: Refusal<usize>, index: &mut [u32]) -> Refusal<u64>
+    ensures value { result ≡ outside base refusal }
+    ensures index_after { index.new ≡ cond (eqb refusal.question.0 2) index.old (replicate (length index.old) 0) }
 {
-    let answer = Answer::Refused(question, offset_at(base, question, position));
-    let starts = Starts { at: [0u32; 12] };
-    if question != 2 {
+    if refusal.question.0 != 2 {
         clear(index, 0, index.len());
     }
-    Decoded { answer, starts }
+    Refusal {
+        question: refusal.question,
+        at: offset_at(base, refusal),
+    }
 }
 
 // Acceptance: the first twelve words are the starts, and the others are cleared.
-pub fn accepted(index: &mut [u32]) -> Decoded
+pub fn accepted(index: &mut [u32]) -> Starts
     requires { 12 ≤ length index.old }
-    ensures value { result ≡ acceptance (take 12 index.old) }
+    ensures value { result ≡ starts_of (take 12 index.old) }
     ensures index_after { index.new ≡ take 12 index.old ++ replicate (length index.old - 12) 0 }
 {
     let starts = starts_of(index);
     clear(index, 12, index.len());
-    Decoded {
-        answer: Answer::Accepted,
-        starts,
-    }
+    starts
 }
 
 // Questions 1 to 32 on positions.
@@ -67,14 +63,13 @@ pub fn judge(s: &[u8], revision: u32, index: &mut [u32]) -> Step
     ensures { Judges s.now revision result index.old index.new }
 {
     let read = read_manifest(s, index);
-    let Step::Next(n) = read else {
+    let Ok(n) = read else {
         return read;
     };
-    let question = validate_manifest(s, revision, index);
-    if question != 0 {
-        return Step::Refused(question, n);
+    match validate_manifest(s, revision, index) {
+        Ok(()) => Ok(n),
+        Err(question) => Err(Refusal { question, at: n }),
     }
-    Step::Next(n)
 }
 
 // Reads a manifest and asks all questions about it. An index of fewer than n ÷ 2 + 16 words is question 2.
@@ -82,9 +77,8 @@ pub fn decode_manifest(bytes: &[u8], base: u64, revision: u32, index: &mut [u32]
     ensures value { result ≡ decode_manifest target_bound_classes bytes.now base revision index.old }
     ensures index_after { index.new ≡ decoded_index target_bound_classes bytes.now revision index.old }
 {
-    let judged = judge(bytes, revision, index);
-    match judged {
-        Step::Next(_) => accepted(index),
-        Step::Refused(question, position) => refused(base, question, position, index),
+    match judge(bytes, revision, index) {
+        Ok(_) => Ok(accepted(index)),
+        Err(refusal) => Err(refused(base, refusal, index)),
     }
 }

@@ -1,6 +1,6 @@
 -- The whole answer of a call on a manifest, and what it leaves of the lent index.
-use Rattle.std.specs.Prelude.{Result, Ok, ℕ, ◌-◌, List, ◌++◌, cond, length, replicate, leb, eqb}
-use Rattle.state.specs.Outcome.{Outcome, got, refused, bind, heed, offset_of, refuses}
+use Rattle.std.specs.Prelude.{Result, Ok, Err, ℕ, ◌-◌, List, ◌++◌, cond, length, replicate, leb, eqb}
+use Rattle.state.specs.Outcome.{Outcome, got, refused, bind, heed, offset_of, refusal}
 use Rattle.state.specs.declared.Starts.{Starts}
 use Rattle.state.specs.declared.Refusal.{Refusal}
 use Rattle.state_wire.specs.Fields.{max_snapshot_bytes}
@@ -18,6 +18,10 @@ judge bound revision s w = bind (read_manifest max_snapshot_bytes s w) (λ m n. 
 abbrev pub offset_at : (base question position : ℕ) → ℕ
 offset_at base q p = cond (leb q 2) 0 (offset_of base p)
 
+-- a refusal as it stands outside
+abbrev pub outside : (base : ℕ) → Refusal ℕ → Refusal ℕ
+outside base d = refusal d.question.0 (offset_at base d.question.0 d.at)
+
 -- "the twelve section starts come back together in one record"
 abbrev pub starts_of : List ℕ → Starts
 starts_of ps = record { at = ps }
@@ -28,7 +32,7 @@ Decoded = Result Starts (Refusal ℕ)
 
 abbrev pub decoded_of : (base : ℕ) → List ℕ → Outcome (El manifest) → Decoded
 decoded_of base s (got m n) = Ok (starts_of (manifest_starts max_snapshot_bytes s))
-decoded_of base s (refused q p) = refuses q (offset_at base q p)
+decoded_of base s (refused q p) = Err (outside base (refusal q p))
 
 -- "After acceptance the twelve section starts come back .. in its first twelve words ..; all other words are 0. After refusal 2 it is
 -- untouched; after any other refusal it is all 0"

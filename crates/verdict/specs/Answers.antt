@@ -7,13 +7,13 @@ use Rattle.state.specs.declared.Side.{Side}
 use Rattle.state.specs.declared.Side.TheVariants.{Snapshot, Target}
 use Rattle.format.specs.Format.{El}
 use Rattle.format.specs.Manifest.{manifest}
-use Rattle.questions.specs.Answers.{judge, offset_at, decoded_index}
+use Rattle.questions.specs.Answers.{judge, outside, decoded_index}
 use Rattle.verdict.specs.Verdict.{Agreement, verdict}
 
 -- of what both come to, each with its base
 abbrev pub verdict_of : (base base' : ℕ) → (snapshot target : Outcome (El manifest)) → Result Agreement Side
-verdict_of base base' (refused q p) o = Err (Snapshot (refusal q (offset_at base q p)))
-verdict_of base base' (got v n) (refused q p) = Err (Target (refusal q (offset_at base' q p)))
+verdict_of base base' (refused q p) o = Err (Snapshot (outside base (refusal q p)))
+verdict_of base base' (got v n) (refused q p) = Err (Target (outside base' (refusal q p)))
 verdict_of base base' (got v n) (got w m) = Ok (verdict v w)
 
 -- "A refused snapshot leaves the target's index untouched"
