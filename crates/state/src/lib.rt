@@ -1,6 +1,8 @@
 // The types that all crates share: answers, the section starts, and the numbers that stand on the wire.
 #![tactic(auto)]
 
+use std::fmt;
+
 // The longest manifest, and the highest limit of a string.
 pub const MAX_SNAPSHOT_BYTES: usize = 67108864;
 
@@ -8,11 +10,26 @@ pub const MAX_SNAPSHOT_BYTES: usize = 67108864;
 #[derive(Clone, Copy, PartialEq, Eq)]
 pub struct Question(pub u8);
 
+impl fmt::Display for Question {
+    fn fmt<W: fmt::Write>(&self, f: &mut fmt::Formatter<W>) -> fmt::Result {
+        let number = self.0;
+        write!(f, "{number}")
+    }
+}
+
 // The question that was answered no, and where: at a position of the bytes, or at an offset, which counts from a base.
 #[derive(Clone, Copy, PartialEq, Eq)]
 pub struct Refusal<P> {
     pub question: Question,
     pub at: P,
+}
+
+impl<P: fmt::Display> fmt::Display for Refusal<P> {
+    fn fmt<W: fmt::Write>(&self, f: &mut fmt::Formatter<W>) -> fmt::Result {
+        let question = self.question;
+        let at = &self.at;
+        write!(f, "{question} {at}")
+    }
 }
 
 // Where reading goes on.
