@@ -2,7 +2,7 @@
 // `refused`, the number of the question and the offset. Base 0, revision 2.
 #![tactic(auto)]
 
-use state::Units;
+use state::{Refusal, Units};
 use state_wire::part;
 use std::io;
 use std::io::Read;
@@ -12,15 +12,10 @@ const MOST: usize = 16384;
 
 const WORDS: usize = 8208;
 
-// A word and two numbers on a line.
-fn print_line(rt: &impl Print, word: &str, first: u64, second: u64) -> io::Result<()> {
-    println!(rt; "{word} {first} {second}")
-}
-
-fn print_units(rt: &impl Print, units: Units) -> io::Result<()> {
+fn print_units(rt: &impl Print, units: Result<Units, Refusal<u64>>) -> io::Result<()> {
     match units {
-        Units::Of(words, total) => print_line(rt, "accepted", words, total),
-        Units::Refused(question, offset) => print_line(rt, "refused", u64::from(question), offset),
+        Ok(Units { words, units }) => println!(rt; "accepted {words} {units}"),
+        Err(refusal) => println!(rt; "refused {refusal}"),
     }
 }
 

@@ -13,11 +13,13 @@
 //   k HEX HEX                the order of two connector keys:     likewise
 #![tactic(auto)]
 
-use order::Order;
+use order::Compared;
 use replay_lines::{after_word, bytes, number, position};
-use state::{Field, Step};
-use state_key_order::KeysCompared;
+use state::{Field, Refusal, Step};
+use state_key_order::{KeyRefused, KeysCompared};
 use state_wire::part;
+use std::cmp::Ordering;
+use std::fmt::Display;
 use std::io;
 use std::io::Read;
 
@@ -26,62 +28,44 @@ const INPUT: usize = 262144;
 
 const SIZE: usize = 1024;
 
-// A number that ends its line.
-fn print_last(rt: &impl Print, n: usize) -> io::Result<()> {
-    println!(rt; "{n}")
-}
-
-fn print_refused(rt: &impl Print, question: u8, position: usize) -> io::Result<()> {
-    print!(rt; "refused {question} ")?;
-    print_last(rt, position)
-}
-
 fn print_step(rt: &impl Print, step: Step) -> io::Result<()> {
     match step {
-        Step::Next(next) => {
-            print!(rt; "next ")?;
-            print_last(rt, next)
-        }
-        Step::Refused(question, position) => print_refused(rt, question, position),
+        Ok(next) => println!(rt; "next {next}"),
+        Err(refusal) => println!(rt; "refused {refusal}"),
     }
 }
 
-fn print_field(rt: &impl Print, field: Field) -> io::Result<()> {
-    match field {
-        Field::Value(value, next) => {
-            print!(rt; "value {value} ")?;
-            print_last(rt, next)
-        }
-        Field::Refused(question, position) => print_refused(rt, question, position),
+fn print_number<N: Display + Drop>(
+    rt: &impl Print,
+    read: Result<(N, usize), Refusal<usize>>,
+) -> io::Result<()> {
+    match read {
+        Ok((value, next)) => println!(rt; "value {value} {next}"),
+        Err(refusal) => println!(rt; "refused {refusal}"),
     }
 }
 
-fn print_order(rt: &impl Print, order: Order, agree: usize) -> io::Result<()> {
-    match order {
-        Order::Less => print!(rt; "less ")?,
-        Order::Equal => print!(rt; "equal ")?,
-        Order::Greater => print!(rt; "greater ")?,
+fn print_compared(rt: &impl Print, compared: Compared) -> io::Result<()> {
+    let agree = compared.agree;
+    match compared.order {
+        Ordering::Less => println!(rt; "less {agree}"),
+        Ordering::Equal => println!(rt; "equal {agree}"),
+        Ordering::Greater => println!(rt; "greater {agree}"),
     }
-    print_last(rt, agree)
 }
 
 fn print_keys(rt: &impl Print, keys: KeysCompared) -> io::Result<()> {
     match keys {
-        KeysCompared::Compared(order, agree) => print_order(rt, order, agree),
-        KeysCompared::LeftRefused(question, position) => {
-            print!(rt; "left ")?;
-            print_refused(rt, question, position)
-        }
-        KeysCompared::RightRefused(question, position) => {
-            print!(rt; "right ")?;
-            print_refused(rt, question, position)
-        }
+        Ok(compared) => print_compared(rt, compared),
+        Err(KeyRefused::Left(refusal)) => println!(rt; "left refused {refusal}"),
+        Err(KeyRefused::Right(refusal)) => println!(rt; "right refused {refusal}"),
     }
 }
 
 fn text_line(rt: &impl Print, s: &[u8], at: usize, room: &mut [u8]) -> io::Result<()> {
     let n = bytes(s, at, room);
-    print_last(rt, text::valid_up_to(part(room, 0, n)))
+    let valid = text::valid_up_to(part(room, 0, n));
+    println!(rt; "{valid}")
 }
 
 fn string_line(rt: &impl Print, s: &[u8], first: usize, room: &mut [u8]) -> io::Result<()> {
@@ -120,16 +104,16 @@ fn offset_line(rt: &impl Print, s: &[u8], first: usize) -> io::Result<()> {
 
 fn read_number(s: &[u8], at: usize, width: u64) -> Field {
     match width {
-        1 => state_wire::read_u8(s, at),
-        4 => state_wire::read_u32(s, at),
-        _ => state_wire::read_u64(s, at),
+        1 => state_wire::read_number::<1>(s, at),
+        4 => state_wire::read_number::<4>(s, at),
+        _ => state_wire::read_number::<8>(s, at),
     }
 }
 
 fn number_line(rt: &impl Print, s: &[u8], first: usize, room: &mut [u8]) -> io::Result<()> {
     let second = after_word(s, first);
     let n = bytes(s, after_word(s, second), room);
-    print_field(
+    print_number(
         rt,
         read_number(part(room, 0, n), position(s, second), number(s, first)),
     )
@@ -141,7 +125,7 @@ fn count_line(rt: &impl Print, s: &[u8], first: usize, room: &mut [u8]) -> io::R
     let n = bytes(s, after_word(s, third), room);
     let count = number(s, first);
     let least = number(s, second);
-    print_field(
+    print_number(
         rt,
         state_wire::bounded_count(part(room, 0, n), position(s, third), count, least),
     )
@@ -151,7 +135,7 @@ fn tag_line(rt: &impl Print, s: &[u8], first: usize, room: &mut [u8]) -> io::Res
     let second = after_word(s, first);
     let n = bytes(s, after_word(s, second), room);
     let known = (number(s, first) % 256) as u8;
-    print_field(
+    print_number(
         rt,
         state_wire::read_tag(part(room, 0, n), position(s, second), known),
     )
@@ -159,10 +143,7 @@ fn tag_line(rt: &impl Print, s: &[u8], first: usize, room: &mut [u8]) -> io::Res
 
 fn compare(rt: &impl Print, op: u8, a: &[u8], b: &[u8]) -> io::Result<()> {
     match op {
-        b'o' => {
-            let c = order::compare(a, b);
-            print_order(rt, c.order, c.agree)
-        }
+        b'o' => print_compared(rt, order::compare(a, b)),
         b'b' => print_keys(rt, state_key_order::compare_block_keys(a, 0, b, 0)),
         _ => print_keys(rt, state_key_order::compare_connector_keys(a, 0, b, 0)),
     }

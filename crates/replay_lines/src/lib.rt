@@ -4,49 +4,43 @@
 
 // The position after the next space or line end.
 pub fn after_word(s: &[u8], at: usize) -> usize {
-    let mut i = at;
-    while i < s.len() {
+    for i in at..s.len() {
         if s[i] == b' ' || s[i] == b'\n' {
             return i + 1;
         }
-        i += 1;
     }
-    i
+    s.len().max(at)
+}
+
+// What stands from a position on.
+fn rest(s: &[u8], at: usize) -> &[u8] {
+    s.get(at..).unwrap_or(&s[..0])
 }
 
 // Ten times v and a digit more, or v where that is too large.
 fn with_digit(v: u64, digit: u8) -> u64 {
-    if 1844674407370955161 < v {
-        return v;
-    }
-    let tens = 10 * v;
-    if 0xffff_ffff_ffff_ffff - tens < digit as u64 {
-        v
-    } else {
-        tens + digit as u64
-    }
+    v.checked_mul(10)
+        .and_then(|tens| tens.checked_add(u64::from(digit)))
+        .unwrap_or(v)
 }
 
-// What a digit of up to base 16 stands for, or 16.
-fn digit(c: u8) -> u8 {
+// What a digit of up to base 16 stands for.
+fn digit(c: u8) -> Option<u8> {
     match c {
-        b'0'..=b'9' => c - b'0',
-        b'a'..=b'f' => c - b'a' + 10,
-        _ => 16,
+        b'0'..=b'9' => Some(c - b'0'),
+        b'a'..=b'f' => Some(c - b'a' + 10),
+        _ => None,
     }
 }
 
 // The decimal number at a position.
 pub fn number(s: &[u8], at: usize) -> u64 {
-    let mut v: u64 = 0;
-    let mut i = at;
-    while i < s.len() {
-        let d = digit(s[i]);
-        if 9 < d {
+    let mut v = 0;
+    for c in rest(s, at) {
+        if !c.is_ascii_digit() {
             return v;
         }
-        v = with_digit(v, d);
-        i += 1;
+        v = with_digit(v, *c - b'0');
     }
     v
 }
@@ -55,32 +49,17 @@ pub fn position(s: &[u8], at: usize) -> usize {
     number(s, at) as usize
 }
 
-// The byte goes to place n, if there is room, and the answer is the next place.
-fn put(out: &mut [u8], n: usize, byte: u8) -> usize {
-    if n < out.len() {
-        out[n] = byte;
-        n + 1
-    } else {
-        n
-    }
-}
-
-fn two_digits(high: u8, low: u8) -> u8 {
-    high % 16 * 16 + low % 16
-}
-
 // The bytes of a HEX, put at the start of `out`, and how many there are.
 pub fn bytes(s: &[u8], at: usize, out: &mut [u8]) -> usize {
     let mut n = 0;
-    let mut i = at;
-    while i < s.len() {
-        let high = digit(s[i]);
-        i += 1;
-        if 15 < high || s.len() <= i {
+    for pair in rest(s, at).chunks_exact(2) {
+        let Some(high) = digit(pair[0]) else {
             return n;
+        };
+        if n < out.len() {
+            out[n] = high % 16 * 16 + digit(pair[1]).unwrap_or(0) % 16;
+            n += 1;
         }
-        n = put(out, n, two_digits(high, digit(s[i])));
-        i += 1;
     }
     n
 }
