@@ -1,16 +1,15 @@
 // The calls on manifests for programs in C and Rust: see include/handover.h.
 #![tactic(auto)]
 
-ghost use Rattle.std.specs.Prelude.{◌≡◌, ◌∷◌, length, replicate};
+ghost use Rattle.std.specs.Prelude.{◌≡◌, ◌∷◌, ◌++◌, length, replicate};
 ghost use Rattle.questions.specs.Portability.{target_bound_classes};
 ghost use Rattle.questions.specs.Answers.{judge, decode_manifest, decoded_index};
 ghost use Rattle.questions.specs.Units.{units_answer, units_index};
 ghost use Rattle.verdict.specs.Answers.{compare_manifests, target_index};
 ghost use Rattle.tail.specs.Answers.{decode_snapshot, snapshot_index};
-ghost use Rattle.state.specs.declared.Answer.TheVariants.{Accepted};
-ghost use Rattle.handover_c.specs.Codes.{answer_code, answer_words, decoded_code, decoded_words, units_code, units_words, verdict_code, verdict_words};
+ghost use Rattle.handover_c.specs.Codes.{decoded_code, decoded_words, units_code, units_words, verdict_code, verdict_words};
 
-use state::{Answer, Starts, Units, Verdict};
+use state::{Decoded, Refusal, Side, Starts, Units, Verdict};
 
 // Four words of an answer; the others are 0.
 fn four_words(a: u64, b: u64, c: u64, d: u64) -> [u64; 16]
@@ -19,45 +18,60 @@ fn four_words(a: u64, b: u64, c: u64, d: u64) -> [u64; 16]
     [a, b, c, d, 0, 0, 0, 0, 0, 0, 0, 0, 0, 0, 0, 0]
 }
 
-fn answer_code(answer: Answer) -> u32
-    ensures { result ≡ answer_code answer }
+fn starts_words(starts: Starts) -> [u64; 16]
+    ensures { result ≡ starts.at ++ replicate 4 0 }
 {
-    match answer {
-        Answer::Accepted => 0,
-        Answer::Refused(question, _) => question as u32,
+    let mut words = [0; 16];
+    for i in 0..12 {
+        words[i] = u64::from(starts.at[i]);
+    }
+    words
+}
+
+// A refusal's number, and its words: the offset, and which side it is of.
+fn refused(refusal: Refusal<u64>, side: u64) -> (u32, [u64; 16])
+    ensures { (result.0 ≡ refusal.question.0) × (result.1 ≡ refusal.at ∷ side ∷ replicate 14 0) }
+{
+    (
+        u32::from(refusal.question.0),
+        four_words(refusal.at, side, 0, 0),
+    )
+}
+
+fn decoded_answer(decoded: Decoded) -> (u32, [u64; 16])
+    ensures { (result.0 ≡ decoded_code decoded) × (result.1 ≡ decoded_words decoded) }
+{
+    match decoded {
+        Ok(starts) => (0, starts_words(starts)),
+        Err(refusal) => refused(refusal, 0),
     }
 }
 
-fn starts_words(starts: Starts) -> [u64; 16]
-    ensures { result ≡ answer_words starts.at Accepted }
+fn units_answer(units: Result<Units, Refusal<u64>>) -> (u32, [u64; 16])
+    ensures { (result.0 ≡ units_code units) × (result.1 ≡ units_words units) }
 {
-    let at = starts.at;
-    [
-        at[0] as u64,
-        at[1] as u64,
-        at[2] as u64,
-        at[3] as u64,
-        at[4] as u64,
-        at[5] as u64,
-        at[6] as u64,
-        at[7] as u64,
-        at[8] as u64,
-        at[9] as u64,
-        at[10] as u64,
-        at[11] as u64,
-        0,
-        0,
-        0,
-        0,
-    ]
+    match units {
+        Ok(Units { words, units }) => (0, four_words(words, units, 0, 0)),
+        Err(refusal) => refused(refusal, 0),
+    }
 }
 
-fn answer_words(answer: Answer, starts: Starts) -> [u64; 16]
-    ensures { result ≡ answer_words starts.at answer }
+fn verdict_answer(verdict: Result<Verdict, Side>) -> (u32, [u64; 16])
+    ensures { (result.0 ≡ verdict_code verdict) × (result.1 ≡ verdict_words verdict) }
 {
-    match answer {
-        Answer::Accepted => starts_words(starts),
-        Answer::Refused(_, offset) => four_words(offset, 0, 0, 0),
+    match verdict {
+        Ok(Ok(())) => (0, four_words(0, 0, 0, 0)),
+        Ok(Err(d)) => (
+            0,
+            four_words(
+                u64::from(d.section),
+                u64::from(d.part),
+                d.entry as u64,
+                d.inner as u64,
+            ),
+        ),
+        Err(Side::Snapshot(refusal)) => refused(refusal, 0),
+        Err(Side::Target(refusal)) => refused(refusal, 1),
     }
 }
 
@@ -73,10 +87,9 @@ pub extern "C" fn handover_decode_manifest(
     ensures answer_after { answer.new ≡ decoded_words (decode_manifest target_bound_classes bytes.now base revision index.old) }
     ensures index_after { index.new ≡ decoded_index target_bound_classes bytes.now revision index.old }
 {
-    let decoded = manifest::decode_manifest(bytes, base, revision, index);
-    let said = decoded.answer;
-    *answer = answer_words(said, decoded.starts);
-    answer_code(said)
+    let (code, words) = decoded_answer(manifest::decode_manifest(bytes, base, revision, index));
+    *answer = words;
+    code
 }
 
 #[unsafe(no_mangle)]
@@ -93,27 +106,9 @@ pub extern "C" fn handover_decode_tail(
     ensures index_after { index.new ≡ snapshot_index target_bound_classes manifest.now tail.now revision index.old }
 {
     let decoded = state_codec::decode_snapshot(manifest, tail, base, revision, index);
-    let said = decoded.answer;
-    *answer = answer_words(said, decoded.starts);
-    answer_code(said)
-}
-
-fn units_code(units: Units) -> u32
-    ensures { result ≡ units_code units }
-{
-    match units {
-        Units::Of(_, _) => 0,
-        Units::Refused(question, _) => question as u32,
-    }
-}
-
-fn units_words(units: Units) -> [u64; 16]
-    ensures { result ≡ units_words units }
-{
-    match units {
-        Units::Of(words, total) => four_words(words, total, 0, 0),
-        Units::Refused(_, offset) => four_words(offset, 0, 0, 0),
-    }
+    let (code, words) = decoded_answer(decoded);
+    *answer = words;
+    code
 }
 
 #[unsafe(no_mangle)]
@@ -128,36 +123,9 @@ pub extern "C" fn handover_units(
     ensures answer_after { answer.new ≡ units_words (units_answer base (judge target_bound_classes revision bytes.now (length index.old))) }
     ensures index_after { index.new ≡ units_index bytes.now index.old (judge target_bound_classes revision bytes.now (length index.old)) }
 {
-    let said = state_manifest::units(bytes, base, revision, index);
-    *answer = units_words(said);
-    units_code(said)
-}
-
-fn verdict_code(verdict: Verdict) -> u32
-    ensures { result ≡ verdict_code verdict }
-{
-    match verdict {
-        Verdict::Compatible => 0,
-        Verdict::Differs(_, _, _, _) => 0,
-        Verdict::SnapshotRefused(question, _) => question as u32,
-        Verdict::TargetRefused(question, _) => question as u32,
-    }
-}
-
-fn verdict_words(verdict: Verdict) -> [u64; 16]
-    ensures { result ≡ verdict_words verdict }
-{
-    match verdict {
-        Verdict::Compatible => four_words(0, 0, 0, 0),
-        Verdict::Differs(section, part, entry, inner) => four_words(
-            section as u64,
-            part as u64,
-            entry as u64,
-            inner as u64,
-        ),
-        Verdict::SnapshotRefused(_, offset) => four_words(offset, 0, 0, 0),
-        Verdict::TargetRefused(_, offset) => four_words(offset, 1, 0, 0),
-    }
+    let (code, words) = units_answer(state_manifest::units(bytes, base, revision, index));
+    *answer = words;
+    code
 }
 
 #[unsafe(no_mangle)]
@@ -180,6 +148,7 @@ pub extern "C" fn handover_compare_manifests(
     let said = state_manifest::compare_manifests(
         snapshot, base, revision, index, target, base2, revision2, index2,
     );
-    *answer = verdict_words(said);
-    verdict_code(said)
+    let (code, words) = verdict_answer(said);
+    *answer = words;
+    code
 }

@@ -13,7 +13,7 @@
 #![tactic(auto)]
 
 use replay_lines::{after_word, bytes, number, position};
-use state::{Answer, Decoded, Starts, Verdict};
+use state::{Decoded, Difference, Question, Side, Verdict};
 use state_wire::part;
 use std::io;
 use std::io::BufRead;
@@ -30,84 +30,46 @@ const WORDS: usize = 512;
 // What stands in each word of the index before a call.
 const FILL: u32 = 0xa5a5a5a5;
 
-fn fill(index: &mut [u32]) {
-    index.fill(FILL);
-}
-
-// Whether each word from a place on is this one.
-fn all_from(index: &[u32], first: usize, word: u32) -> bool {
-    for i in first..index.len() {
-        if index[i] != word {
-            return false;
-        }
-    }
-    true
-}
-
-fn word(index: &[u32], i: usize) -> u32 {
-    if i < index.len() { index[i] } else { 0 }
-}
-
-// Whether the first twelve words are the starts.
-fn are_starts(starts: Starts, index: &[u32]) -> bool {
-    for i in 0..12 {
-        if starts.at[i] != word(index, i) {
-            return false;
-        }
-    }
-    true
+// Whether each word is this one.
+fn are_all(words: &[u32], word: u32) -> bool {
+    words.iter().all(|w| *w == word)
 }
 
 // Whether the index is what a refusal leaves: untouched after question 2, else cleared.
-fn is_refused(question: u8, index: &[u32]) -> bool {
-    all_from(index, 0, if question == 2 { FILL } else { 0 })
+fn is_refused(question: Question, index: &[u32]) -> bool {
+    are_all(index, if question.0 == 2 { FILL } else { 0 })
+}
+
+// Whether the words behind the starts are what acceptance leaves.
+fn is_cleared(index: &[u32]) -> bool {
+    index.iter().skip(12).all(|w| *w == 0)
 }
 
 // Whether the index is what the answer says that it is.
-fn is_left(answer: Answer, starts: Starts, index: &[u32]) -> bool {
-    match answer {
-        Answer::Accepted => are_starts(starts, index) && all_from(index, 12, 0),
-        Answer::Refused(question, _) => is_refused(question, index),
+fn is_left(decoded: Decoded, index: &[u32]) -> bool {
+    match decoded {
+        Ok(starts) => index.starts_with(&starts.at) && is_cleared(index),
+        Err(refusal) => is_refused(refusal.question, index),
     }
 }
 
 // Whether both indexes are what the verdict says that they are. Starts are not looked at: they are printed.
-fn are_left(verdict: Verdict, index: &[u32], index2: &[u32]) -> bool {
+fn are_left(verdict: Result<Verdict, Side>, index: &[u32], index2: &[u32]) -> bool {
     match verdict {
-        Verdict::SnapshotRefused(question, _) => is_refused(question, index)
-            && all_from(index2, 0, FILL),
-        Verdict::TargetRefused(question, _) => all_from(index, 12, 0)
-            && is_refused(question, index2),
-        _ => all_from(index, 12, 0) && all_from(index2, 12, 0),
+        Err(Side::Snapshot(refusal)) => is_refused(refusal.question, index)
+            && are_all(index2, FILL),
+        Err(Side::Target(refusal)) => is_cleared(index) && is_refused(refusal.question, index2),
+        Ok(_) => is_cleared(index) && is_cleared(index2),
     }
-}
-
-fn print_number(rt: &impl Print, n: u64) -> io::Result<()> {
-    print!(rt; " {n}")
 }
 
 // A word, and the starts that stand in the index.
 fn print_starts(rt: &impl Print, name: &str, index: &[u32]) -> io::Result<()> {
     print!(rt; "{name}")?;
-    for i in 0..12 {
-        print_number(rt, u64::from(word(index, i)))?;
+    for start in index.iter().take(12) {
+        print!(rt; " {start}")?;
     }
     Ok(())
-}
-
-// A word for what is refused, and the refusal.
-fn print_refusal(rt: &impl Print, name: &str, question: u8, offset: u64) -> io::Result<()> {
-    print!(rt; "{name} {question} {offset}")
-}
-
-fn print_difference(
-    rt: &impl Print,
-    section: u8,
-    part: u8,
-    entry: usize,
-    inner: usize,
-) -> io::Result<()> {
-    print!(rt; "differs {section} {part} {entry} {inner}")
 }
 
 // Ends the answer.
@@ -119,13 +81,21 @@ fn print_end(rt: &impl Print, left: bool) -> io::Result<()> {
 }
 
 fn print_decoded(rt: &impl Print, decoded: Decoded, index: &[u32]) -> io::Result<()> {
-    let answer = decoded.answer;
-    let starts = decoded.starts;
-    match answer {
-        Answer::Accepted => print_starts(rt, "accepted", index)?,
-        Answer::Refused(question, offset) => print_refusal(rt, "refused", question, offset)?,
+    match decoded {
+        Ok(_) => print_starts(rt, "accepted", index)?,
+        Err(refusal) => print!(rt; "refused {refusal}")?,
     }
-    print_end(rt, is_left(answer, starts, index))
+    print_end(rt, is_left(decoded, index))
+}
+
+fn print_difference(rt: &impl Print, difference: Difference) -> io::Result<()> {
+    let Difference {
+        section,
+        part,
+        entry,
+        inner,
+    } = difference;
+    print!(rt; "differs {section} {part} {entry} {inner}")
 }
 
 fn print_both_starts(rt: &impl Print, index: &[u32], index2: &[u32]) -> io::Result<()> {
@@ -135,24 +105,22 @@ fn print_both_starts(rt: &impl Print, index: &[u32], index2: &[u32]) -> io::Resu
 
 fn print_verdict(
     rt: &impl Print,
-    verdict: Verdict,
+    verdict: Result<Verdict, Side>,
     index: &[u32],
     index2: &[u32],
 ) -> io::Result<()> {
     match verdict {
-        Verdict::Compatible => {
+        Ok(Ok(())) => {
             print!(rt; "compatible")?;
             print_both_starts(rt, index, index2)?;
         }
-        Verdict::Differs(section, part, entry, inner) => {
-            print_difference(rt, section, part, entry, inner)?;
+        Ok(Err(difference)) => {
+            print_difference(rt, difference)?;
             print_both_starts(rt, index, index2)?;
         }
-        Verdict::SnapshotRefused(question, offset) => print_refusal(
-            rt, "snapshot", question, offset,
-        )?,
-        Verdict::TargetRefused(question, offset) => {
-            print_refusal(rt, "target", question, offset)?;
+        Err(Side::Snapshot(refusal)) => print!(rt; "snapshot {refusal}")?,
+        Err(Side::Target(refusal)) => {
+            print!(rt; "target {refusal}")?;
             print_starts(rt, " starts", index)?;
         }
     }
@@ -184,7 +152,7 @@ fn call_at(s: &[u8], at: usize) -> Call {
 }
 
 fn decode(rt: &impl Print, s: &[u8], call: Call, index: &mut [u32]) -> io::Result<()> {
-    fill(index);
+    index.fill(FILL);
     let decoded = manifest::decode_manifest(s, call.base, call.revision, index);
     print_decoded(rt, decoded, index)
 }
@@ -196,7 +164,7 @@ fn decode_tail(
     t: &[u8],
     index: &mut [u32],
 ) -> io::Result<()> {
-    fill(index);
+    index.fill(FILL);
     let decoded = state_codec::decode_snapshot(s, t, call.base, call.revision, index);
     print_decoded(rt, decoded, index)
 }
@@ -210,8 +178,8 @@ fn compare(
     call2: Call,
     index2: &mut [u32],
 ) -> io::Result<()> {
-    fill(index);
-    fill(index2);
+    index.fill(FILL);
+    index2.fill(FILL);
     let verdict = state_manifest::compare_manifests(
         s,
         call.base,
