@@ -14,45 +14,54 @@ ghost use Rattle.state_layout.specs.Tables.{manifest_of};
 ghost use Rattle.state_codec.specs.Listed.{Asked};
 
 use manifest::{accepted, judge, refused};
-use state::{Decoded, Field, MAX_SNAPSHOT_BYTES, Step};
+use state::{Decoded, MAX_SNAPSHOT_BYTES, Question, Refusal, Step};
 use state_index::word_at;
 use state_manifest::state_words;
-use state_wire::{bounded_count, offset, read_u32, read_u64, step_of};
+use state_wire::{bounded_count, offset, read_number, step_of};
 use values::{read_values, validate_values};
 
 // The word count and the words, and question 37. The words are passed over: the count was held against what is left.
 fn read_words(t: &[u8], at: usize, total: u64) -> Step
     ensures { result ≡ step_of (read_words total t.now at) }
 {
-    let number = read_u64(t, at);
-    let Field::Value(n, next) = number else {
+    let number = read_number::<8>(t, at);
+    let Ok((n, next)) = number else {
         return step_of(number);
     };
     let count = bounded_count(t, next, n, 8);
-    let Field::Value(words, first) = count else {
+    let Ok((words, first)) = count else {
         return step_of(count);
     };
     if words != total {
-        return Step::Refused(37, at);
+        return Err(Refusal {
+            question: Question(37),
+            at,
+        });
     }
-    Step::Next(first + 8 * words as usize)
+    Ok(first + 8 * words as usize)
 }
 
 // The flags and the end of the tail: questions 38 and 10.
 fn read_flags(t: &[u8], at: usize) -> Step
     ensures { result ≡ step_of (read_flags t.now at) }
 {
-    let flags = read_u32(t, at);
-    let Field::Value(f, next) = flags else {
+    let flags = read_number::<4>(t, at);
+    let Ok((f, next)) = flags else {
         return step_of(flags);
     };
     if f != 0 {
-        return Step::Refused(38, at);
+        return Err(Refusal {
+            question: Question(38),
+            at,
+        });
     }
     if next == t.len() {
-        Step::Next(next)
+        Ok(next)
     } else {
-        Step::Refused(10, next)
+        Err(Refusal {
+            question: Question(10),
+            at: next,
+        })
     }
 }
 
@@ -63,15 +72,12 @@ fn read_tail(s: &[u8], index: &[u32], t: &[u8]) -> Step
     ensures { result ≡ step_of (read_tail (manifest_of s.now) t.now) }
 {
     let values = read_values(t);
-    let Step::Next(p) = values else {
+    let Ok(p) = values else {
         return values;
     };
-    let question = validate_values(s, index, t);
-    if question != 0 {
-        return Step::Refused(question, p);
-    }
+    validate_values(s, index, t).map_err(|question| Refusal { question, at: p })?;
     let words = read_words(t, p, state_words(s, word_at(index, 8)));
-    let Step::Next(q) = words else {
+    let Ok(q) = words else {
         return words;
     };
     read_flags(t, q)
@@ -81,10 +87,7 @@ fn read_tail(s: &[u8], index: &[u32], t: &[u8]) -> Step
 fn too_long(n: usize, t: usize) -> bool
     ensures { result ≡ not (leb (n + t) max_snapshot_bytes) }
 {
-    if MAX_SNAPSHOT_BYTES < n {
-        return true;
-    }
-    MAX_SNAPSHOT_BYTES - n < t
+    MAX_SNAPSHOT_BYTES < n || MAX_SNAPSHOT_BYTES - n < t
 }
 
 // Reads a manifest and the tail behind it and asks all questions about them. The index is the manifest's, and left as `decode_manifest` leaves it.
@@ -99,20 +102,18 @@ pub fn decode_snapshot(
     ensures index_after { index.new ≡ snapshot_index target_bound_classes bytes.now tail.now revision index.old }
 {
     if too_long(bytes.len(), tail.len()) {
-        return refused(base, 1, 0, index);
+        let refusal = Refusal {
+            question: Question(1),
+            at: 0,
+        };
+        return Err(refused(base, refusal, index));
     }
     let judged = judge(bytes, revision, index);
-    if let Step::Refused(question, position) = judged {
-        return refused(base, question, position, index);
+    if let Err(refusal) = judged {
+        return Err(refused(base, refusal, index));
     }
-    let read = read_tail(bytes, index, tail);
-    match read {
-        Step::Next(_) => accepted(index),
-        Step::Refused(question, position) => refused(
-            offset(base, bytes.len()),
-            question,
-            position,
-            index,
-        ),
+    match read_tail(bytes, index, tail) {
+        Ok(_) => Ok(accepted(index)),
+        Err(refusal) => Err(refused(offset(base, bytes.len()), refusal, index)),
     }
 }

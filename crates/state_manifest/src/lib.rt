@@ -20,64 +20,58 @@ ghost use Rattle.state_manifest.specs.Accepted.{Accepted};
 
 use compare::compare_sections;
 use manifest::decode_manifest;
-use state::{Answer, Units, Verdict};
+use state::{Question, Refusal, Side, Units, Verdict};
 use state_index::keys::{block_key_end, count_at, number_at};
 use state_index::{ahead, clear, word_at};
-
-fn larger(a: u64, b: u64) -> u64
-    ensures { result ≡ max a b }
-{
-    if a < b {
-        return b;
-    }
-    a
-}
 
 // The word total of the slots whose count stands at a position: the largest end.
 pub fn state_words(s: &[u8], at: usize) -> u64
     requires { all end_fits (value_at (counted state_slots) s.now at) ≡ true }
     ensures { result ≡ word_total (value_at (counted state_slots) s.now at) }
 {
-    let mut left = count_at(s, at);
     let mut p = ahead(s, at, 4);
-    let mut most = 0;
-    while 0 < left {
+    let mut most = 0u64;
+    for _ in 0..count_at(s, at) {
         let offset = block_key_end(s, p);
         let length = ahead(s, offset, 8);
-        most = larger(most, number_at(s, offset) + number_at(s, length));
+        most = most.max(number_at(s, offset) + number_at(s, length));
         p = ahead(s, length, 8);
-        left -= 1;
     }
     most
 }
 
 // The units of an accepted manifest, whose starts are the first words of the index. Where they are above 2^64 − 1 the index is cleared.
-fn count_units(s: &[u8], index: &mut [u32]) -> Units
+fn count_units(s: &[u8], index: &mut [u32]) -> Result<Units, Refusal<u64>>
     requires { Accepted s.now index.old }
     ensures value { result ≡ units_answer 0 (got (manifest_of s.now) 0) }
     ensures index_after { index.new ≡ cond (leb (units_of (manifest_of s.now)) (2 ^ 64 - 1)) index.old (replicate (length index.old) 0) }
 {
     let words = state_words(s, word_at(index, 8));
     let connectors = count_at(s, word_at(index, 3)) as u64;
-    if (18446744073709551615 - connectors) / 4 < words {
+    let sum = words.checked_mul(4).and_then(|n| n.checked_add(connectors));
+    let Some(units) = sum else {
         clear(index, 0, index.len());
-        return Units::Refused(39, 0);
-    }
-    Units::Of(words, 4 * words + connectors)
+        return Err(Refusal {
+            question: Question(39),
+            at: 0,
+        });
+    };
+    Ok(Units { words, units })
 }
 
 // The word total and the units of a manifest, or its refusal. The index is left as `decode_manifest` leaves it, but cleared after 39.
-pub fn units(bytes: &[u8], base: u64, revision: u32, index: &mut [u32]) -> Units
+pub fn units(
+    bytes: &[u8],
+    base: u64,
+    revision: u32,
+    index: &mut [u32],
+) -> Result<Units, Refusal<u64>>
     ensures value { result ≡ units_answer base (judge target_bound_classes revision bytes.now (length index.old)) }
     ensures index_after { index.new ≡ units_index bytes.now index.old (judge target_bound_classes revision bytes.now (length index.old)) }
     ensures words_demand { WordsDemand target_bound_classes bytes.now revision index.old result }
 {
-    let d = decode_manifest(bytes, base, revision, index);
-    let answer = d.answer;
-    match answer {
-        Answer::Refused(question, offset) => Units::Refused(question, offset),
-        Answer::Accepted => count_units(bytes, index),
-    }
+    decode_manifest(bytes, base, revision, index)?;
+    count_units(bytes, index)
 }
 
 // The verdict on a snapshot's manifest and the target's, each with its own base, revision and index; or the refusal of the first that is refused.
@@ -90,23 +84,13 @@ pub fn compare_manifests(
     base2: u64,
     revision2: u32,
     index2: &mut [u32],
-) -> Verdict
+) -> Result<Verdict, Side>
     ensures value { result ≡ compare_manifests target_bound_classes snapshot.now base revision index.old target.now base2 revision2 index2.old }
     ensures index_after { index.new ≡ decoded_index target_bound_classes snapshot.now revision index.old }
     ensures index2_after { index2.new ≡ target_index target_bound_classes snapshot.now base revision index.old target.now base2 revision2 index2.old }
     ensures verdict_demand { VerdictDemand target_bound_classes snapshot.now base revision index.old target.now base2 revision2 index2.old result }
 {
-    let first = decode_manifest(snapshot, base, revision, index);
-    let answer = first.answer;
-    if let Answer::Refused(question, offset) = answer {
-        return Verdict::SnapshotRefused(question, offset);
-    }
-    let second = decode_manifest(target, base2, revision2, index2);
-    let answer2 = second.answer;
-    if let Answer::Refused(question, offset) = answer2 {
-        return Verdict::TargetRefused(question, offset);
-    }
-    let starts = first.starts;
-    let starts2 = second.starts;
-    compare_sections(snapshot, target, starts, starts2)
+    let starts = decode_manifest(snapshot, base, revision, index).map_err(Side::Snapshot)?;
+    let starts2 = decode_manifest(target, base2, revision2, index2).map_err(Side::Target)?;
+    Ok(compare_sections(snapshot, target, starts, starts2))
 }
