@@ -12,6 +12,9 @@ use native.Mathlib.Nat.{zero-add}
 use native.Mathlib.Numerals.{add-one}
 use native.Mathlib.Omega.{arith}
 use borrow.Author.Tests.{ltb-true, ltb-false, lt-ltb, le-ltb, le-leb, lt-leb, eq-eqb, ne_eqb}
+use Rattle.std.specs.List.{between, fold}
+use Rattle.std.specs.Prelude.{max}
+use Rattle.std.proofs.lemmas.List.Edits.{get_or-between, length-between}
 use Rattle.text.specs.Rfc3629.{scalar, row, mark}
 use Rattle.text.specs.Valid.{lead, fits, whole, opened, char_width, up_to, valid_up_to, valid_from}
 use Rattle.text.specs.Blocks.{Passed}
@@ -243,11 +246,28 @@ ascii_run (suc n) [] h f = absurd (omega arith)
 ascii_run (suc n) (a ∷ s) h f =
     omega (arith, step (a ∷ s) 1 (ascii a s (f 0 (omega arith))) (omega arith), ascii_run n s (omega arith) (λ k l. f (suc k) (omega arith)))
 
-pub ascii-passed : (s : List ℕ) (at n : ℕ) → at + n ≤ length s → ((k : ℕ) → k < n → get_or s (at + k) 0 < 0x80) → Passed s at (at + n)
-ascii-passed s at n h f =
+-- the first n of a part of a list
+pub ascii-passed : (s : List ℕ) (at n to : ℕ) → at + n ≤ to → to ≤ length s → ((k : ℕ) → k < n → get_or (between at to s) k 0 < 0x80) → Passed s at (at + n)
+ascii-passed s at n to h b f =
     let d : valid_up_to (drop at s) ≡ n + valid_up_to (drop (at + n) s) =
-    ascii_run n (drop at s) (simp length-drop (omega arith)) (λ k l. rw get_or-drop (f k l)) ∙ rw drop-drop in
-    record { on = omega arith; within = h; same = omega arith }
+    ascii_run n (drop at s) (simp length-drop (omega arith)) (λ k l. rw get_or-drop (omega (arith, f k l, get_or-between s at to k 0 (omega arith)))) ∙ rw drop-drop in
+    record { on = omega arith; within = omega arith; same = omega arith }
+
+-- none of the numbers is above the greatest
+max-from : (s : List ℕ) (a : ℕ) → a ≤ fold max a s
+max-from [] a = omega arith
+max-from (x ∷ s) a = omega (arith, max-from s (max a x))
+
+max-above : (s : List ℕ) (a k : ℕ) → k < length s → get_or s k 0 ≤ fold max a s
+max-above [] a k l = absurd (omega arith)
+max-above (x ∷ s) a zero l = omega (arith, max-from s (max a x))
+max-above (x ∷ s) a (suc k) l = max-above s (max a x) k (omega arith)
+
+pub ascii-block : (s : List ℕ) (at n : ℕ) → at + n ≤ length s → fold max 0 (between at (at + n) s) < 0x80 → Passed s at (at + n)
+ascii-block s at n h m =
+    let b = between at (at + n) s in
+    let l : length b ≡ n = omega (arith, length-between s at (at + n) h) in
+    ascii-passed s at n (at + n) (omega arith) h (λ k i. omega (arith, max-above b 0 k (omega arith)))
 
 up_to-within : (k : ℕ) (s : List ℕ) → up_to k s ≤ length s
 up_to-within k [] = omega arith

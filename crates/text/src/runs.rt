@@ -72,7 +72,7 @@ fn clean_blocks(s: &[u8], from: usize, n: usize) -> usize
             return at;
         }
         at += n;
-        if ascii_next(s, at, 64) {
+        if ascii_next(s, at) {
             return at;
         }
     }
