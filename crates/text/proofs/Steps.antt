@@ -4,8 +4,8 @@ use Prim.Native.Nat.{ℕ, zero, suc, ◌+◌, ◌*◌, ◌-◌, ◌/◌, ◌%◌
 use mathlib.Core.List.{List, [], ◌∷◌}
 use mathlib.Core.Bool.{Bool, true, false, ◌&&◌, and-false}
 use mathlib.Core.Logic.{◌⊎◌, inl, inr, ⊎_elim}
-use mathlib.Core.Path.{◌≡◌, refl, sym, ap, ◌∙◌}
-use lib.ListN.{length, get_or, drop, length-drop, drop_of_length-le}
+use mathlib.Core.Path.{◌≡◌, refl, sym, ap, subst, ◌∙◌}
+use lib.ListN.{length, get_or, drop, length-drop}
 use lib.Seq.{drop-cons, drop-drop, get_or-drop}
 use lib.Dec.{ltb, eqb}
 use native.Mathlib.Nat.{zero-add}
@@ -13,11 +13,12 @@ use native.Mathlib.Numerals.{add-one}
 use native.Mathlib.Omega.{arith}
 use borrow.Author.Tests.{ltb-true, ltb-false, lt-ltb, le-ltb, le-leb, lt-leb, eq-eqb, ne_eqb}
 use Rattle.std.specs.List.{between, fold}
-use Rattle.std.specs.Prelude.{max}
+use Rattle.std.specs.Prelude.{max, Option, None, Some}
 use Rattle.std.proofs.lemmas.List.Edits.{get_or-between, length-between}
+use Rattle.std.proofs.lemmas.Slice.{between_to_end}
 use Rattle.text.specs.Rfc3629.{scalar, row, mark}
 use Rattle.text.specs.Valid.{lead, fits, whole, opened, char_width, up_to, valid_up_to, valid_from}
-use Rattle.text.specs.Blocks.{Passed}
+use Rattle.text.specs.Blocks.{Passed, IsWidth}
 
 pub below : (a n : ℕ) → (a < n) ⊎ (n ≤ a)
 below a n = go (ltb a n) refl
@@ -61,6 +62,22 @@ lead-none a h =
     let r : 0xe0 ≤ a = omega arith in
     let t : 0xf0 ≤ a = omega arith in
     rw (le-ltb a 0x80, le-ltb a 0xc0, le-ltb a 0xe0, le-ltb a 0xf0, le-ltb a 0xf8)
+
+-- and the other way
+pub lead-range : (a k : ℕ) → lead a ≡ suc k → (k < 4) × (mark k ≤ a) × (a < past k)
+lead-range a k e =
+    ⊎_elim (λ l. is 0 (omega arith) (omega arith) l)
+    (λ h. ⊎_elim (λ l. let z = lead-not a h l in absurd (omega arith))
+    (λ h. ⊎_elim (λ l. is 1 (omega arith) h l)
+    (λ h. ⊎_elim (λ l. is 2 (omega arith) h l)
+    (λ h. ⊎_elim (λ l. is 3 (omega arith) h l) (λ h. let z = lead-none a h in absurd (omega arith)) (below a 0xf8))
+    (below a 0xf0))
+    (below a 0xe0))
+    (below a 0xc0))
+    (below a 0x80)
+  where
+    is : (j : ℕ) → j < 4 → mark j ≤ a → a < past j → (k < 4) × (mark k ≤ a) × (a < past k)
+    is j b h l = let q : j ≡ k = omega (arith, lead_is j a b h l) in subst (λ (n : ℕ). (n < 4) × (mark n ≤ a) × (a < past n)) q (b, h, l)
 
 pub opens-no : (a : ℕ) (s : List ℕ) → lead a ≡ 0 → char_width (a ∷ s) ≡ 0
 opens-no a s e = rw e
@@ -119,7 +136,7 @@ module _ (k v : ℕ) where
   fits-other n = rw (ne_eqb (row v) k)
 
 -- too few
-whole-short : (k j v : ℕ) (s : List ℕ) → length s < j → whole k j v s ≡ 0
+pub whole-short : (k j v : ℕ) (s : List ℕ) → length s < j → whole k j v s ≡ 0
 whole-short k zero v s h = absurd (omega arith)
 whole-short k (suc j) v [] h = refl
 whole-short k (suc j) v (c ∷ s) h = go (eqb (c / 64) 2) refl (whole-short k j (v * 64 + c % 64) s (omega arith))
@@ -136,12 +153,6 @@ ascii a s h =
 -- a list from an index: the element there, and the rest from the next index, as the code writes it
 pub from : (s : List ℕ) (at next : ℕ) → at < length s → at + 1 ≡ next → drop at s ≡ get_or s at 0 ∷ drop next s
 from s at next h e = rw (← e, add-one) (drop-cons s at 0 h)
-
-pub short-at : (k : ℕ) (s : List ℕ) (at : ℕ) → at < length s → k < 4 → mark k ≤ get_or s at 0 → get_or s at 0 < past k → length s - at ≤ k → char_width (drop at s) ≡ 0
-short-at k s at h b m p l =
-    ap char_width (from s at (at + 1) h refl)
-    ∙ opens k (get_or s at 0) (drop (at + 1) s) b m p
-    ∙ whole-short k k (get_or s at 0 - mark k) (drop (at + 1) s) (simp length-drop (omega arith))
 
 -- a character has as many octets as its first announces, and they are there
 pub whole-width : (k j v : ℕ) (s : List ℕ) → (whole k j v s ≡ 0) ⊎ ((whole k j v s ≡ suc k) × (j ≤ length s))
@@ -195,49 +206,25 @@ stay s p h = record { on = omega arith; within = h; same = refl }
 pub onward : {s : List ℕ} {p q r : ℕ} → Passed s p q → Passed s q r → Passed s p r
 onward a b = record { on = omega arith; within = b.within; same = b.same ∙ a.same }
 
--- a character more, at a position; no character there; the end
-module _ (s : List ℕ) (at : ℕ) where
-  further : at ≤ length s → (w : ℕ) → w ≡ char_width (drop at s) → 0 < w → Passed s at (at + w)
-  further h w e l =
-      let b : at + w ≤ length s = omega (arith, width-within (drop at s), length-drop at s) in
-      let d : valid_up_to (drop at s) ≡ w + valid_up_to (drop (at + w) s) = step (drop at s) w (sym e) l ∙ rw drop-drop in
-      record { on = omega arith; within = b; same = omega arith }
+-- a character more, at a position, and no character there
+module _ (s : List ℕ) (at w : ℕ) (h : at ≤ length s) (e : char_width (between at (length s) s) ≡ w) where
+  rest : char_width (drop at s) ≡ w
+  rest = sym (ap char_width (between_to_end s at (length s) (omega arith))) ∙ e
 
-  pub bad : char_width (drop at s) ≡ 0 → at ≡ valid_from s at
-  bad e = let z = stop (drop at s) e in omega arith
+  pub fits-in : at + w ≤ length s
+  fits-in = omega (arith, width-within (drop at s), length-drop at s, rest)
 
-  pub over : length s ≤ at → at ≡ valid_from s at
-  unfolding valid_up_to
-  over h = let z : valid_up_to (drop at s) ≡ 0 = rw (drop_of_length-le s h) in omega arith
+  pub further : (next : ℕ) → 0 < w → next ≡ at + w → Passed s at next
+  further next l n =
+      let d : valid_up_to (drop at s) ≡ w + valid_up_to (drop (at + w) s) = step (drop at s) w rest l ∙ rw drop-drop in
+      rw n (record { on = omega arith; within = fits-in; same = omega arith })
 
--- a character has as many octets as its first announces
-announced : (a : ℕ) (s : List ℕ) → (char_width (a ∷ s) ≡ 0 → ⊥) → char_width (a ∷ s) ≡ lead a
-announced a s n = go (lead a) n
-  where
-    go : (m : ℕ) → (opened m a s ≡ 0 → ⊥) → opened m a s ≡ m
-    go zero n = absurd (n refl)
-    go (suc k) n = ⊎_elim (λ e. absurd (n e)) (λ e. e.0) (whole-width k k (a - mark k) s)
+  none : w ≡ 0 → at ≡ valid_from s at
+  none z = let y = stop (drop at s) (rest ∙ z) in omega arith
 
-pub passes-ascii : (s : List ℕ) (at : ℕ) → at < length s → get_or s at 0 < 0x80 → Passed s at (at + 1)
-passes-ascii s at h l = further s at (omega arith) 1 (sym (ap char_width (from s at (at + 1) h refl) ∙ ascii (get_or s at 0) (drop (at + 1) s) l)) (omega arith)
-
-module _ (s : List ℕ) (at : ℕ) (h : at < length s) (n : char_width (drop at s) ≡ 0 → ⊥) where
-  leads : lead (get_or s at 0) ≡ 0 → ⊥
-  leads e = n (ap char_width (from s at (at + 1) h refl) ∙ opens-no (get_or s at 0) (drop (at + 1) s) e)
-
-  passes : (k : ℕ) → lead (get_or s at 0) ≡ suc k → Passed s at (at + suc k)
-  passes k e =
-      let f = ap char_width (from s at (at + 1) h refl) in
-      further s at (omega arith) (suc k) (sym (f ∙ announced (get_or s at 0) (drop (at + 1) s) (λ z. n (f ∙ z)) ∙ e)) (omega arith)
-
-  pub passes-two : 0x80 ≤ get_or s at 0 → get_or s at 0 < 0xe0 → Passed s at (at + 2)
-  passes-two g l = passes 1 (⊎_elim (λ b. absurd (leads (lead-not (get_or s at 0) g b))) (λ b. lead_is 1 (get_or s at 0) (omega arith) b l) (below (get_or s at 0) 0xc0))
-
-  pub passes-three : 0xe0 ≤ get_or s at 0 → get_or s at 0 < 0xf0 → Passed s at (at + 3)
-  passes-three g l = passes 2 (lead_is 2 (get_or s at 0) (omega arith) g l)
-
-  pub passes-four : 0xf0 ≤ get_or s at 0 → Passed s at (at + 4)
-  passes-four g = passes 3 (⊎_elim (λ b. lead_is 3 (get_or s at 0) (omega arith) g b) (λ b. absurd (leads (lead-none (get_or s at 0) b))) (below (get_or s at 0) 0xf8))
+pub bad : (s : List ℕ) (at : ℕ) (o : Option ℕ) → at ≤ length s → IsWidth o (char_width (between at (length s) s)) → ((w : ℕ) → o ≡ Some w → ⊥) → at ≡ valid_from s at
+bad s at None h e n = none s at 0 h e refl
+bad s at (Some w) h e n = absurd (n w refl)
 
 -- octets below 0x80, each a character
 ascii_run : (n : ℕ) (s : List ℕ) → n ≤ length s → ((k : ℕ) → k < n → get_or s k 0 < 0x80) → valid_up_to s ≡ n + valid_up_to (drop n s)
