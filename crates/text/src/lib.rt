@@ -19,11 +19,7 @@ fn text_run(s: &[u8], from: usize) -> usize
     ensures { Passed s.now from result }
 {
     let mut at = from;
-    while s.len() - at >= 28 {
-        let on = text_blocks(s, at);
-        if on == at {
-            return at;
-        }
+    while let Some(on) = text_blocks(s, at) {
         at = ascii_blocks(s, ascii_blocks(s, on, 64), 16);
     }
     at
