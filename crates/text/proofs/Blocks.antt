@@ -11,20 +11,19 @@ use lib.Dec.{ltb, leb, eqb}
 use native.Mathlib.Nat.{zero-add, add-zero}
 use native.Mathlib.Omega.{arith}
 use borrow.Author.Tests.{ltb-true, ltb-false, leb-true, leb-false, lt-ltb, le-leb, lt-leb, not-false}
+use Rattle.std.proofs.lemmas.Bool.{cases_lt, and_parts, or_parts}
 use Rattle.text.specs.Valid.{valid_up_to}
 use Rattle.text.specs.Blocks.{Passed, second_from, second_to, Clean, Quiet, CleanAt, QuietAt, CleanUpTo, pad}
-use Rattle.text.proofs.Steps.{below, step, ascii, from}
+use Rattle.text.proofs.Steps.{step, ascii, from}
 use Rattle.text.proofs.Octets.{taken, next, none-follows}
 
 -- ---- what the code's tests say
 
 pub both : (p q : Bool) → p && q ≡ true → (p ≡ true) × (q ≡ true)
-both true q e = (refl, e)
-both false q e = absurd (false≢true e)
+both = and_parts
 
 pub neither : (p q : Bool) → p || q ≡ false → (p ≡ false) × (q ≡ false)
-neither true q e = absurd (true≢false e)
-neither false q e = (refl, e)
+neither = or_parts
 
 alike : (p q : Bool) → not (beq p q) ≡ false → p ≡ q
 alike true true e = refl
@@ -87,7 +86,7 @@ module _ (w x y z : ℕ) where
       let d = neither (not (beq need (under 0xc0 z))) first b.0 in
       let s = alike need (under 0xc0 z) d.0 in
       record {
-        first = λ h i j. ⊎_elim inl (λ g. inr (under-not 0xc0 z (sym s ∙ rw (lt-leb 0xc0 y h, lt-leb 0xe0 x i, lt-leb 0xf0 w j)) g)) (below z 0x80);
+        first = λ h i j. ⊎_elim inl (λ g. inr (under-not 0xc0 z (sym s ∙ rw (lt-leb 0xc0 y h, lt-leb 0xe0 x i, lt-leb 0xf0 w j)) g)) (cases_lt z 0x80);
         second = λ h. second-in d.1 b.1 a.1 h (follows s (rw (le-leb 0xc0 y h)));
         third = λ h. follows s (rw (le-leb 0xe0 x h, or-true));
         fourth = λ h. follows s (rw (le-leb 0xf0 w h, or-true));
@@ -163,9 +162,9 @@ runs-more n more (suc m) h w x y (a ∷ l) q (c, r) =
     ⊎_elim (λ t. one n x y a v more m l k t r)
     (λ g. ⊎_elim (λ t. two n x y a v more m l k (g, t) r)
     (λ g. ⊎_elim (λ t. three n x y a v more m l k (g, t) r)
-    (λ g. ⊎_elim (λ t. four n x y a v more m l k (g, t) r) (λ g. absurd (none n x y a v more m l g r)) (below a 0xf8))
-    (below a 0xf0))
-    (below a 0xe0))
+    (λ g. ⊎_elim (λ t. four n x y a v more m l k (g, t) r) (λ g. absurd (none n x y a v more m l g r)) (cases_lt a 0xf8))
+    (cases_lt a 0xf0))
+    (cases_lt a 0xe0))
     (c.first q.one q.two q.three)
 
 runs : (n : ℕ) → Runs n
@@ -198,10 +197,10 @@ pub clean-none : (s : List ℕ) (q p : ℕ) → q ≡ p → q ≤ length s → C
 clean-none s q p e h = record { on = omega arith; within = omega arith; each = λ k i l. absurd (omega arith) }
 
 pub clean-next : {s : List ℕ} {q p : ℕ} (r : ℕ) → CleanUpTo s q p → r ≡ p + 1 → r ≤ length s → CleanAt s p → CleanUpTo s q r
-clean-next {s} {q} {p} r c e h a = record { on = omega arith; within = h; each = λ k i l. ⊎_elim (λ b. c.each k i b) (λ b. let m : p ≡ k = omega arith in subst (CleanAt s) m a) (below k p) }
+clean-next {s} {q} {p} r c e h a = record { on = omega arith; within = h; each = λ k i l. ⊎_elim (λ b. c.each k i b) (λ b. let m : p ≡ k = omega arith in subst (CleanAt s) m a) (cases_lt k p) }
 
 pub clean-more : {s : List ℕ} {q p r : ℕ} → CleanUpTo s q p → CleanUpTo s p r → CleanUpTo s q r
-clean-more {s} {q} {p} {r} c d = record { on = omega arith; within = d.within; each = λ k h l. ⊎_elim (λ i. c.each k h i) (λ i. d.each k i l) (below k p) }
+clean-more {s} {q} {p} {r} c d = record { on = omega arith; within = d.within; each = λ k h l. ⊎_elim (λ i. c.each k h i) (λ i. d.each k i l) (cases_lt k p) }
 
 pub clean-part : {s : List ℕ} {q p : ℕ} (a b : ℕ) → CleanUpTo s q p → q ≤ a → a ≤ b → b ≤ p → CleanUpTo s a b
 clean-part a b c h g l = record { on = g; within = omega arith; each = λ k i m. c.each k (omega arith) (omega arith) }
@@ -212,9 +211,6 @@ pad-low s zero h = refl
 pad-low s (suc zero) h = refl
 pad-low s (suc (suc zero)) h = refl
 pad-low s (suc (suc (suc i))) h = absurd (omega arith)
-
-pub clean_at : (s : List ℕ) (p : ℕ) → 3 ≤ p → Clean (get_or s (p - 3) 0) (get_or s (p - 2) 0) (get_or s (p - 1) 0) (get_or s p 0) → CleanAt s p
-clean_at s p h c = rw (pad-at s p (p - 3) (omega arith), pad-at s (p + 1) (p - 2) (omega arith), pad-at s (p + 2) (p - 1) (omega arith)) c
 
 -- for `text_blocks`, where it ends between two characters
 pub ruleset passed = (blocks-passed)

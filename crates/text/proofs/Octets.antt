@@ -11,17 +11,18 @@ use lib.Dec.{eqb}
 use native.Mathlib.Numerals.{add-one}
 use native.Mathlib.Omega.{arith}
 use borrow.Author.Tests.{eqb-true, eqb-false, lt-ltb, le-ltb, ne_eqb}
+use Rattle.std.proofs.lemmas.Bool.{cases_lt}
 use Rattle.text.specs.Rfc3629.{row, mark}
 use Rattle.text.specs.Valid.{lead, fits, whole, char_width}
 use Rattle.text.specs.Blocks.{second_from, second_to}
-use Rattle.text.proofs.Steps.{below, past, lead-range, opens, tail_more, tail_none, least, row_is, scalar-low, scalar-gap, scalar-high, scalar-past, fits-so, fits_not, fits-other}
+use Rattle.text.proofs.Steps.{past, lead-range, opens, tail_more, tail_none, least, row_is, scalar-low, scalar-gap, scalar-high, scalar-past, fits-so, fits_not, fits-other}
 
 -- ---- numbers that are too small for their width, or are no scalar values, and numbers that fit
 
 row-short : (k v : ℕ) → k < 4 → v < least k → row v < k
 row-short zero v b h = absurd (omega arith)
 row-short (suc k) v b h =
-    ⊎_elim (λ l. omega (arith, row-short k v (omega arith) l)) (λ g. omega (arith, row_is k v (omega arith) g h)) (below v (least k))
+    ⊎_elim (λ l. omega (arith, row-short k v (omega arith) l)) (λ g. omega (arith, row_is k v (omega arith) g h)) (cases_lt v (least k))
 
 module _ (k v : ℕ) where
   short : (k < 4) × (v < least k) → fits k v ≡ 0
@@ -75,21 +76,21 @@ plain {j} {a} n r = so (from-80 a n.0 n.2 n.4) (to-c0 a n.3 n.5 n.1) r
 
 rows : (j a : ℕ) → j < 3 → mark (suc j) ≤ a → a < past (suc j) → Row j a (second_from a) (second_to a)
 rows zero a b h l =
-    ⊎_elim (λ t. so (rw (lt-ltb a 0xc2)) (to-c0 a (omega arith) (omega arith) (omega arith)) (c0 h t)) (λ g. plain (omega arith) (c2 g l)) (below a 0xc2)
+    ⊎_elim (λ t. so (rw (lt-ltb a 0xc2)) (to-c0 a (omega arith) (omega arith) (omega arith)) (c0 h t)) (λ g. plain (omega arith) (c2 g l)) (cases_lt a 0xc2)
 rows (suc zero) a b h l =
     ⊎_elim (λ t. at 0xe0 (omega arith) (e0 (omega arith)))
     (λ g. ⊎_elim (λ t. plain (omega arith) (e1 g t))
-    (λ g. ⊎_elim (λ t. at 0xed (omega arith) (ed (omega arith))) (λ g. plain (omega arith) (ee g l)) (below a 0xee))
-    (below a 0xed))
-    (below a 0xe1)
+    (λ g. ⊎_elim (λ t. at 0xed (omega arith) (ed (omega arith))) (λ g. plain (omega arith) (ee g l)) (cases_lt a 0xee))
+    (cases_lt a 0xed))
+    (cases_lt a 0xe1)
 rows (suc (suc zero)) a b h l =
     ⊎_elim (λ t. at 0xf0 (omega arith) (f0 (omega arith)))
     (λ g. ⊎_elim (λ t. plain (omega arith) (f1 g t))
     (λ g. ⊎_elim (λ t. at 0xf4 (omega arith) (f4 (omega arith)))
     (λ g. so (from-80 a (omega arith) (omega arith) (omega arith)) (to-80 a (omega arith) (omega arith) g) (f5 g l))
-    (below a 0xf5))
-    (below a 0xf4))
-    (below a 0xf1)
+    (cases_lt a 0xf5))
+    (cases_lt a 0xf4))
+    (cases_lt a 0xf1)
 rows (suc (suc (suc j))) a b h l = absurd (omega arith)
 
 -- ---- numbers with the octets' bits v in front, and j octets yet to be read

@@ -16,16 +16,10 @@ use Rattle.std.specs.List.{between, fold}
 use Rattle.std.specs.Prelude.{max, Option, None, Some}
 use Rattle.std.proofs.lemmas.List.Edits.{get_or-between, length-between}
 use Rattle.std.proofs.lemmas.Slice.{between_to_end}
+use Rattle.std.proofs.lemmas.Bool.{cases_lt}
 use Rattle.text.specs.Rfc3629.{scalar, row, mark}
 use Rattle.text.specs.Valid.{lead, fits, whole, opened, char_width, up_to, valid_up_to, valid_from}
 use Rattle.text.specs.Blocks.{Passed, IsWidth}
-
-pub below : (a n : ℕ) → (a < n) ⊎ (n ≤ a)
-below a n = go (ltb a n) refl
-  where
-    go : (b : Bool) → ltb a n ≡ b → (a < n) ⊎ (n ≤ a)
-    go true e = inl (ltb-true a n e)
-    go false e = inr (ltb-false a n e)
 
 -- the first octets past those of a width
 abbrev pub past : ℕ → ℕ
@@ -70,17 +64,14 @@ lead-range a k e =
     (λ h. ⊎_elim (λ l. let z = lead-not a h l in absurd (omega arith))
     (λ h. ⊎_elim (λ l. is 1 (omega arith) h l)
     (λ h. ⊎_elim (λ l. is 2 (omega arith) h l)
-    (λ h. ⊎_elim (λ l. is 3 (omega arith) h l) (λ h. let z = lead-none a h in absurd (omega arith)) (below a 0xf8))
-    (below a 0xf0))
-    (below a 0xe0))
-    (below a 0xc0))
-    (below a 0x80)
+    (λ h. ⊎_elim (λ l. is 3 (omega arith) h l) (λ h. let z = lead-none a h in absurd (omega arith)) (cases_lt a 0xf8))
+    (cases_lt a 0xf0))
+    (cases_lt a 0xe0))
+    (cases_lt a 0xc0))
+    (cases_lt a 0x80)
   where
     is : (j : ℕ) → j < 4 → mark j ≤ a → a < past j → (k < 4) × (mark k ≤ a) × (a < past k)
     is j b h l = let q : j ≡ k = omega (arith, lead_is j a b h l) in subst (λ (n : ℕ). (n < 4) × (mark n ≤ a) × (a < past n)) q (b, h, l)
-
-pub opens-no : (a : ℕ) (s : List ℕ) → lead a ≡ 0 → char_width (a ∷ s) ≡ 0
-opens-no a s e = rw e
 
 -- one octet more
 module _ (k j v c : ℕ) (s : List ℕ) where
@@ -134,16 +125,6 @@ module _ (k v : ℕ) where
 
   pub fits-other : (row v ≡ k → ⊥) → 0 ≡ fits k v
   fits-other n = rw (ne_eqb (row v) k)
-
--- too few
-pub whole-short : (k j v : ℕ) (s : List ℕ) → length s < j → whole k j v s ≡ 0
-whole-short k zero v s h = absurd (omega arith)
-whole-short k (suc j) v [] h = refl
-whole-short k (suc j) v (c ∷ s) h = go (eqb (c / 64) 2) refl (whole-short k j (v * 64 + c % 64) s (omega arith))
-  where
-    go : (b : Bool) → eqb (c / 64) 2 ≡ b → whole k j (v * 64 + c % 64) s ≡ 0 → whole k (suc j) v (c ∷ s) ≡ 0
-    go true e r = rw e r
-    go false e r = rw e
 
 pub ascii : (a : ℕ) (s : List ℕ) → a < 0x80 → char_width (a ∷ s) ≡ 1
 ascii a s h =
@@ -200,9 +181,6 @@ step (b ∷ s) (suc k) e h =
     rw (e, up_to) (omega arith)
 
 -- steps, one after the other
-pub stay : (s : List ℕ) (p : ℕ) → p ≤ length s → Passed s p p
-stay s p h = record { on = omega arith; within = h; same = refl }
-
 pub onward : {s : List ℕ} {p q r : ℕ} → Passed s p q → Passed s q r → Passed s p r
 onward a b = record { on = omega arith; within = b.within; same = b.same ∙ a.same }
 

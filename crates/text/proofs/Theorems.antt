@@ -17,9 +17,10 @@ use native.Mathlib.Nat.{zero-add, add-zero, add-sub_cancel_left}
 use native.Mathlib.Numerals.{add-one}
 use native.Mathlib.Omega.{arith}
 use borrow.Author.Tests.{eqb-true, eqb-false}
+use Rattle.std.proofs.lemmas.Bool.{cases_lt}
 use Rattle.text.specs.Rfc3629.{scalar, row, mark, octets, encode, Text, none, char}
 use Rattle.text.specs.Valid.{lead, fits, whole, opened, char_width, valid_up_to}
-use Rattle.text.proofs.Steps.{below, scalar-past, past, opens, lead-range, least, row_is, tail_more, tail_none, fits-so, step, stop, whole-width, width-within, valid-within}
+use Rattle.text.proofs.Steps.{scalar-past, past, opens, lead-range, least, row_is, tail_more, tail_none, fits-so, step, stop, whole-width, width-within, valid-within}
 
 -- ---- what `char_width` takes is an encoding
 
@@ -97,7 +98,7 @@ reads k i (suc j) v r =
 
 scalar_below : (v : ℕ) → scalar v ≡ true → v < 0x110000
 scalar_below v t =
-    ⊎_elim (λ h. h) (λ h. let f = scalar-past v h in let z : ◌≡◌ {A = ℕ} 0 1 = cc in absurd (omega arith)) (below v 0x110000)
+    ⊎_elim (λ h. h) (λ h. let f = scalar-past v h in let z : ◌≡◌ {A = ℕ} 0 1 = cc in absurd (omega arith)) (cases_lt v 0x110000)
 
 -- the bits of a number that are in its first octet leave that octet's fixed bits alone
 room : (v : ℕ) → scalar v ≡ true → (row v < 4) × (mark (row v) + top (row v) v < past (row v))
@@ -105,9 +106,9 @@ room v t =
     let b = scalar_below v t in
     ⊎_elim (λ l. is 0 (omega arith) (omega arith) l (omega arith))
     (λ h. ⊎_elim (λ l. is 1 (omega arith) h l (omega arith))
-    (λ h. ⊎_elim (λ l. is 2 (omega arith) h l (omega arith)) (λ h. is 3 (omega arith) h (omega arith) (omega arith)) (below v 0x10000))
-    (below v 0x800))
-    (below v 0x80)
+    (λ h. ⊎_elim (λ l. is 2 (omega arith) h l (omega arith)) (λ h. is 3 (omega arith) h (omega arith) (omega arith)) (cases_lt v 0x10000))
+    (cases_lt v 0x800))
+    (cases_lt v 0x80)
   where
     is : (k : ℕ) → k < 4 → least k ≤ v → v < least (suc k) → mark k + top k v < past k → (row v < 4) × (mark (row v) + top (row v) v < past (row v))
     is k b h l f = subst (λ (n : ℕ). (n < 4) × (mark n + top n v < past n)) (sym (row_is k v b h l)) (b, f)
