@@ -1,4 +1,4 @@
-use Rattle.text.proofs.Steps.{onward, further, bad, fits-in}
+use Rattle.text.proofs.Steps.{onward, further, bad}
 use mathlib.Core.Path.{◌∙◌}
 use native.Mathlib.Omega.{arith}
 use Rattle.text.proofs.chars.Goals as goal

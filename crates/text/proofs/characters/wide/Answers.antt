@@ -1,4 +1,4 @@
-use Rattle.std.proofs.Common.{rules, ◌≤◌, ◌<◌, ◌+◌, ◌≡◌, ◌/◌, ◌∷◌, take, sym, ◌∙◌, ℕ, ◌⊎◌}
+use Rattle.std.proofs.Common.{rules, ◌≤◌, ◌<◌, ◌≡◌, ◌/◌, ◌∷◌, take, sym, ◌∙◌, ◌⊎◌}
 use Rattle.std.proofs.lemmas.Iterator.{cases_from_all, YieldsList-from_slice}
 use Rattle.std.proofs.lemmas.Slice.{between_from_start}
 use borrow.Author.Tests.{tests}
