@@ -184,25 +184,23 @@ step (b ∷ s) (suc k) e h =
 pub onward : {s : List ℕ} {p q r : ℕ} → Passed s p q → Passed s q r → Passed s p r
 onward a b = record { on = omega arith; within = b.within; same = b.same ∙ a.same }
 
--- a character more, at a position, and no character there
+-- no character at a position, and one
+pub bad : (s : List ℕ) (at : ℕ) → char_width (drop at s) ≡ 0 → at ≡ valid_from s at
+bad s at e = let z = stop (drop at s) e in omega arith
+
 module _ (s : List ℕ) (at w : ℕ) (h : at ≤ length s) (e : char_width (between at (length s) s) ≡ w) where
   rest : char_width (drop at s) ≡ w
   rest = sym (ap char_width (between_to_end s at (length s) (omega arith))) ∙ e
 
-  pub fits-in : at + w ≤ length s
-  fits-in = omega (arith, width-within (drop at s), length-drop at s, rest)
-
   pub further : (next : ℕ) → 0 < w → next ≡ at + w → Passed s at next
   further next l n =
+      let b : at + w ≤ length s = omega (arith, width-within (drop at s), length-drop at s, rest) in
       let d : valid_up_to (drop at s) ≡ w + valid_up_to (drop (at + w) s) = step (drop at s) w rest l ∙ rw drop-drop in
-      rw n (record { on = omega arith; within = fits-in; same = omega arith })
+      rw n (record { on = omega arith; within = b; same = omega arith })
 
-  none : w ≡ 0 → at ≡ valid_from s at
-  none z = let y = stop (drop at s) (rest ∙ z) in omega arith
-
-pub bad : (s : List ℕ) (at : ℕ) (o : Option ℕ) → at ≤ length s → IsWidth o (char_width (between at (length s) s)) → ((w : ℕ) → o ≡ Some w → ⊥) → at ≡ valid_from s at
-bad s at None h e n = none s at 0 h e refl
-bad s at (Some w) h e n = absurd (n w refl)
+pub ended : (s : List ℕ) (at : ℕ) (o : Option ℕ) → at ≤ length s → IsWidth o (char_width (between at (length s) s)) → ((w : ℕ) → o ≡ Some w → ⊥) → at ≡ valid_from s at
+ended s at None h e n = bad s at (rest s at 0 h e)
+ended s at (Some w) h e n = absurd (n w refl)
 
 -- octets below 0x80, each a character
 ascii_run : (n : ℕ) (s : List ℕ) → n ≤ length s → ((k : ℕ) → k < n → get_or s k 0 < 0x80) → valid_up_to s ≡ n + valid_up_to (drop n s)

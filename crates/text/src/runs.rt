@@ -44,7 +44,7 @@ fn quiet(s: &[u8], at: usize) -> bool
     requires { at ≤ length s.now }
     ensures { result ≡ true → QuietAt s.now at }
 {
-    (padded(s, at) < 0xf0) & (padded(s, at + 1) < 0xe0) & (padded(s, at + 2) < 0xc0)
+    padded(s, at) < 0xf0 && padded(s, at + 1) < 0xe0 && padded(s, at + 2) < 0xc0
 }
 
 // Where octets have three before them: at a position, or past the first three where they are right.
@@ -55,8 +55,10 @@ fn opening(s: &[u8], from: usize) -> Option<usize>
     if from >= 3 {
         return Some(from);
     }
-    let bad = flaw(0, 0, 0, s[0]) | flaw(0, 0, s[0], s[1]) | flaw(0, s[0], s[1], s[2]);
-    if bad { None } else { Some(3) }
+    if flaw(0, 0, 0, s[0]) || flaw(0, 0, s[0], s[1]) || flaw(0, s[0], s[1], s[2]) {
+        return None;
+    }
+    Some(3)
 }
 
 // Past each n octets that are right, up to a run of ASCII.

@@ -1,4 +1,4 @@
-use Rattle.text.proofs.Steps.{onward, further, bad}
+use Rattle.text.proofs.Steps.{onward, further, ended}
 use mathlib.Core.Path.{◌∙◌}
 use native.Mathlib.Omega.{arith}
 use Rattle.text.proofs.chars.Goals as goal
@@ -16,4 +16,4 @@ pub loop-width-preserved : goal.loop-width-preserved
 loop-width-preserved c = onward c.loop-width.invariant (further _ _ _ (omega arith) c.in-Some.ensures.1 _ c.in-Some.ensures.0 (omega arith))
 
 pub returns : goal.returns
-returns c = bad _ _ c.char_width.result (omega arith) c.char_width.ensures c.in_default.not-Some ∙ c.loop-width.invariant.same
+returns c = ended _ _ c.char_width.result (omega arith) c.char_width.ensures c.in_default.not-Some ∙ c.loop-width.invariant.same
