@@ -32,7 +32,7 @@ fn chars(s: &[u8], from: usize) -> usize
 {
     let mut at = from;
     while let Some(width) = char_width(&s[at..]) {
-        // Each width is added as a constant, so that the next load does not wait for the octets before it. As a variable slower, by 7 in 100 on short strings.
+        // Each width is added as a constant, so that the next load does not wait for the octets before it. Slower as a variable, by 7 in 100 on short strings.
         at = match width {
             1 => ascii_bytes(s, at + 1),
             2 => at + 2,
