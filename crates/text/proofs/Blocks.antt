@@ -2,96 +2,26 @@
 -- Assumes nothing.
 use Prim.Native.Nat.{ℕ, zero, suc, ◌+◌, ◌-◌, ◌≤◌, ◌<◌}
 use mathlib.Core.List.{List, [], ◌∷◌}
-use mathlib.Core.Bool.{Bool, true, false, cond, not, ◌&&◌, ◌||◌, beq, or-true, true≢false, false≢true}
-use mathlib.Core.Logic.{inl, inr, ⊎_elim}
+use mathlib.Core.Bool.{Bool, true, false, ◌&&◌, ◌||◌}
+use mathlib.Core.Logic.{⊎_elim}
 use mathlib.Core.Path.{◌≡◌, refl, sym, subst, ◌∙◌}
 use lib.ListN.{length, get_or, drop}
 use lib.Seq.{drop-drop}
-use lib.Dec.{ltb, leb, eqb}
 use native.Mathlib.Nat.{zero-add, add-zero}
 use native.Mathlib.Omega.{arith}
-use borrow.Author.Tests.{ltb-true, ltb-false, leb-true, leb-false, lt-ltb, le-leb, lt-leb, not-false}
+use Rattle.std.proofs.lemmas.Bool.{cases_lt, and_parts, or_parts}
 use Rattle.text.specs.Valid.{valid_up_to}
-use Rattle.text.specs.Blocks.{Passed, second_from, second_to, Clean, Quiet, CleanAt, QuietAt, CleanUpTo, pad}
-use Rattle.text.proofs.Steps.{below, step, ascii, from}
+use Rattle.text.specs.Blocks.{Passed, Clean, Quiet, CleanAt, QuietAt, CleanUpTo, pad}
+use Rattle.text.proofs.Steps.{step, ascii, from}
 use Rattle.text.proofs.Octets.{taken, next, none-follows}
 
--- ---- what the code's tests say
+-- ---- what `&&` and `||` say
 
 pub both : (p q : Bool) → p && q ≡ true → (p ≡ true) × (q ≡ true)
-both true q e = (refl, e)
-both false q e = absurd (false≢true e)
+both = and_parts
 
 pub neither : (p q : Bool) → p || q ≡ false → (p ≡ false) × (q ≡ false)
-neither true q e = absurd (true≢false e)
-neither false q e = (refl, e)
-
-alike : (p q : Bool) → not (beq p q) ≡ false → p ≡ q
-alike true true e = refl
-alike true false e = absurd (true≢false e)
-alike false true e = absurd (true≢false e)
-alike false false e = refl
-
-abbrev under : ℕ → ℕ → Bool
-under t z = leb 0x80 z && ltb z t
-
-under-so : (t z : ℕ) → under t z ≡ true → (0x80 ≤ z) × (z < t)
-under-so t z e = let b = both (leb 0x80 z) (ltb z t) e in (leb-true 0x80 z b.0, ltb-true z t b.1)
-
-under-not : (t z : ℕ) → under t z ≡ false → 0x80 ≤ z → t ≤ z
-under-not t z e h = ltb-false z t (rw (le-leb 0x80 z h) at e)
-
--- the bounds of the second octet, as tests that are free of branches
-starts : (z : ℕ) (p q r : Bool) → p ≡ false → q && under 0xa0 z ≡ false → r && under 0x90 z ≡ false → 0x80 ≤ z → cond p 0xc0 (cond q 0xa0 (cond r 0x90 0x80)) ≤ z
-starts z true q r e f g h = absurd (true≢false e)
-starts z false true r e f g h = under-not 0xa0 z f h
-starts z false false true e f g h = under-not 0x90 z g h
-starts z false false false e f g h = h
-
-ends : (z : ℕ) (p q r : Bool) → p && not (under 0xa0 z) ≡ false → q && not (under 0x90 z) ≡ false → r ≡ true → z < 0xc0 → z < cond p 0xa0 (cond q 0x90 (cond r 0xc0 0x80))
-ends z true q r e f g h = (under-so 0xa0 z (not-false (under 0xa0 z) e)).1
-ends z false true r e f g h = (under-so 0x90 z (not-false (under 0x90 z) f)).1
-ends z false false true e f g h = h
-ends z false false false e f g h = absurd (false≢true g)
-
-module _ (w x y z : ℕ) where
-  abbrev need : Bool
-  need = leb 0xc0 y || leb 0xe0 x || leb 0xf0 w
-
-  abbrev first : Bool
-  first = (leb 0xc0 y && ltb y 0xc2) || leb 0xf5 y
-
-  abbrev low : Bool
-  low = (eqb y 0xe0 && under 0xa0 z) || (eqb y 0xf0 && under 0x90 z)
-
-  abbrev high : Bool
-  high = (eqb y 0xed && not (under 0xa0 z)) || (eqb y 0xf4 && not (under 0x90 z))
-
-  follows : need ≡ under 0xc0 z → need ≡ true → (0x80 ≤ z) × (z < 0xc0)
-  follows e t = under-so 0xc0 z (sym e ∙ t)
-
-  second-in : first ≡ false → low ≡ false → high ≡ false → 0xc0 ≤ y → (0x80 ≤ z) × (z < 0xc0) → (second_from y ≤ z) × (z < second_to y)
-  second-in f l h c b =
-      let g = neither (leb 0xc0 y && ltb y 0xc2) (leb 0xf5 y) f in
-      let u = neither (eqb y 0xe0 && under 0xa0 z) (eqb y 0xf0 && under 0x90 z) l in
-      let v = neither (eqb y 0xed && not (under 0xa0 z)) (eqb y 0xf4 && not (under 0x90 z)) h in
-      let t : ltb y 0xf5 ≡ true = lt-ltb y 0xf5 (leb-false 0xf5 y g.1) in (
-        starts z (ltb y 0xc2) (eqb y 0xe0) (eqb y 0xf0) (rw (le-leb 0xc0 y c) at g.0) u.0 u.1 b.0,
-        ends z (eqb y 0xed) (eqb y 0xf4) (ltb y 0xf5) v.0 v.1 t b.1,
-      )
-
-  pub right : not (beq need (under 0xc0 z)) || first || low || high ≡ false → Clean w x y z
-  right e =
-      let a = neither (not (beq need (under 0xc0 z)) || first || low) high e in
-      let b = neither (not (beq need (under 0xc0 z)) || first) low a.0 in
-      let d = neither (not (beq need (under 0xc0 z))) first b.0 in
-      let s = alike need (under 0xc0 z) d.0 in
-      record {
-        first = λ h i j. ⊎_elim inl (λ g. inr (under-not 0xc0 z (sym s ∙ rw (lt-leb 0xc0 y h, lt-leb 0xe0 x i, lt-leb 0xf0 w j)) g)) (below z 0x80);
-        second = λ h. second-in d.1 b.1 a.1 h (follows s (rw (le-leb 0xc0 y h)));
-        third = λ h. follows s (rw (le-leb 0xe0 x h, or-true));
-        fourth = λ h. follows s (rw (le-leb 0xf0 w h, or-true));
-      }
+neither = or_parts
 
 -- ---- after w, x and y a list whose first m octets are right, with a quiet end
 
@@ -163,9 +93,9 @@ runs-more n more (suc m) h w x y (a ∷ l) q (c, r) =
     ⊎_elim (λ t. one n x y a v more m l k t r)
     (λ g. ⊎_elim (λ t. two n x y a v more m l k (g, t) r)
     (λ g. ⊎_elim (λ t. three n x y a v more m l k (g, t) r)
-    (λ g. ⊎_elim (λ t. four n x y a v more m l k (g, t) r) (λ g. absurd (none n x y a v more m l g r)) (below a 0xf8))
-    (below a 0xf0))
-    (below a 0xe0))
+    (λ g. ⊎_elim (λ t. four n x y a v more m l k (g, t) r) (λ g. absurd (none n x y a v more m l g r)) (cases_lt a 0xf8))
+    (cases_lt a 0xf0))
+    (cases_lt a 0xe0))
     (c.first q.one q.two q.three)
 
 runs : (n : ℕ) → Runs n
@@ -198,21 +128,15 @@ pub clean-none : (s : List ℕ) (q p : ℕ) → q ≡ p → q ≤ length s → C
 clean-none s q p e h = record { on = omega arith; within = omega arith; each = λ k i l. absurd (omega arith) }
 
 pub clean-next : {s : List ℕ} {q p : ℕ} (r : ℕ) → CleanUpTo s q p → r ≡ p + 1 → r ≤ length s → CleanAt s p → CleanUpTo s q r
-clean-next {s} {q} {p} r c e h a = record { on = omega arith; within = h; each = λ k i l. ⊎_elim (λ b. c.each k i b) (λ b. let m : p ≡ k = omega arith in subst (CleanAt s) m a) (below k p) }
+clean-next {s} {q} {p} r c e h a = record { on = omega arith; within = h; each = λ k i l. ⊎_elim (λ b. c.each k i b) (λ b. let m : p ≡ k = omega arith in subst (CleanAt s) m a) (cases_lt k p) }
 
 pub clean-more : {s : List ℕ} {q p r : ℕ} → CleanUpTo s q p → CleanUpTo s p r → CleanUpTo s q r
-clean-more {s} {q} {p} {r} c d = record { on = omega arith; within = d.within; each = λ k h l. ⊎_elim (λ i. c.each k h i) (λ i. d.each k i l) (below k p) }
+clean-more {s} {q} {p} {r} c d = record { on = omega arith; within = d.within; each = λ k h l. ⊎_elim (λ i. c.each k h i) (λ i. d.each k i l) (cases_lt k p) }
 
 pub clean-part : {s : List ℕ} {q p : ℕ} (a b : ℕ) → CleanUpTo s q p → q ≤ a → a ≤ b → b ≤ p → CleanUpTo s a b
 clean-part a b c h g l = record { on = g; within = omega arith; each = λ k i m. c.each k (omega arith) (omega arith) }
 
 -- the octets before a position, as the code reads them
-pub pad-low : (s : List ℕ) (i : ℕ) → i < 3 → get_or (pad s) i 0 ≡ 0
-pad-low s zero h = refl
-pad-low s (suc zero) h = refl
-pad-low s (suc (suc zero)) h = refl
-pad-low s (suc (suc (suc i))) h = absurd (omega arith)
-
 pub clean_at : (s : List ℕ) (p : ℕ) → 3 ≤ p → Clean (get_or s (p - 3) 0) (get_or s (p - 2) 0) (get_or s (p - 1) 0) (get_or s p 0) → CleanAt s p
 clean_at s p h c = rw (pad-at s p (p - 3) (omega arith), pad-at s (p + 1) (p - 2) (omega arith), pad-at s (p + 2) (p - 1) (omega arith)) c
 

@@ -3,24 +3,26 @@
 use Prim.Native.Nat.{ℕ, zero, suc, ◌+◌, ◌*◌, ◌-◌, ◌/◌, ◌%◌, ◌≤◌, ◌<◌}
 use mathlib.Core.List.{List, [], ◌∷◌}
 use mathlib.Core.Bool.{Bool, true, false}
-use mathlib.Core.Logic.{⊎_elim}
+use mathlib.Core.Logic.{◌⊎◌, ⊎_elim}
 use mathlib.Core.Path.{◌≡◌, refl, sym, ap, ◌∙◌}
-use lib.ListN.{get_or}
+use lib.ListN.{get_or, length, take}
+use lib.Seq.{length-take-le, get_or-take}
 use lib.Dec.{eqb}
 use native.Mathlib.Numerals.{add-one}
 use native.Mathlib.Omega.{arith}
 use borrow.Author.Tests.{eqb-true, eqb-false, lt-ltb, le-ltb, ne_eqb}
+use Rattle.std.proofs.lemmas.Bool.{cases_lt}
 use Rattle.text.specs.Rfc3629.{row, mark}
-use Rattle.text.specs.Valid.{fits, whole, char_width}
+use Rattle.text.specs.Valid.{lead, fits, whole, char_width}
 use Rattle.text.specs.Blocks.{second_from, second_to}
-use Rattle.text.proofs.Steps.{below, past, opens, tail_more, tail_none, least, row_is, scalar-low, scalar-gap, scalar-high, scalar-past, fits-so, fits_not, fits-other}
+use Rattle.text.proofs.Steps.{past, lead-range, opens, tail_more, tail_none, least, row_is, scalar-low, scalar-gap, scalar-high, scalar-past, fits-so, fits_not, fits-other}
 
 -- ---- numbers that are too small for their width, or are no scalar values, and numbers that fit
 
 row-short : (k v : ℕ) → k < 4 → v < least k → row v < k
 row-short zero v b h = absurd (omega arith)
 row-short (suc k) v b h =
-    ⊎_elim (λ l. omega (arith, row-short k v (omega arith) l)) (λ g. omega (arith, row_is k v (omega arith) g h)) (below v (least k))
+    ⊎_elim (λ l. omega (arith, row-short k v (omega arith) l)) (λ g. omega (arith, row_is k v (omega arith) g h)) (cases_lt v (least k))
 
 module _ (k v : ℕ) where
   short : (k < 4) × (v < least k) → fits k v ≡ 0
@@ -74,21 +76,21 @@ plain {j} {a} n r = so (from-80 a n.0 n.2 n.4) (to-c0 a n.3 n.5 n.1) r
 
 rows : (j a : ℕ) → j < 3 → mark (suc j) ≤ a → a < past (suc j) → Row j a (second_from a) (second_to a)
 rows zero a b h l =
-    ⊎_elim (λ t. so (rw (lt-ltb a 0xc2)) (to-c0 a (omega arith) (omega arith) (omega arith)) (c0 h t)) (λ g. plain (omega arith) (c2 g l)) (below a 0xc2)
+    ⊎_elim (λ t. so (rw (lt-ltb a 0xc2)) (to-c0 a (omega arith) (omega arith) (omega arith)) (c0 h t)) (λ g. plain (omega arith) (c2 g l)) (cases_lt a 0xc2)
 rows (suc zero) a b h l =
     ⊎_elim (λ t. at 0xe0 (omega arith) (e0 (omega arith)))
     (λ g. ⊎_elim (λ t. plain (omega arith) (e1 g t))
-    (λ g. ⊎_elim (λ t. at 0xed (omega arith) (ed (omega arith))) (λ g. plain (omega arith) (ee g l)) (below a 0xee))
-    (below a 0xed))
-    (below a 0xe1)
+    (λ g. ⊎_elim (λ t. at 0xed (omega arith) (ed (omega arith))) (λ g. plain (omega arith) (ee g l)) (cases_lt a 0xee))
+    (cases_lt a 0xed))
+    (cases_lt a 0xe1)
 rows (suc (suc zero)) a b h l =
     ⊎_elim (λ t. at 0xf0 (omega arith) (f0 (omega arith)))
     (λ g. ⊎_elim (λ t. plain (omega arith) (f1 g t))
     (λ g. ⊎_elim (λ t. at 0xf4 (omega arith) (f4 (omega arith)))
     (λ g. so (from-80 a (omega arith) (omega arith) (omega arith)) (to-80 a (omega arith) (omega arith) g) (f5 g l))
-    (below a 0xf5))
-    (below a 0xf4))
-    (below a 0xf1)
+    (cases_lt a 0xf5))
+    (cases_lt a 0xf4))
+    (cases_lt a 0xf1)
 rows (suc (suc (suc j))) a b h l = absurd (omega arith)
 
 -- ---- numbers with the octets' bits v in front, and j octets yet to be read
@@ -203,6 +205,43 @@ module _ (j a b : ℕ) (s : List ℕ) (h : (j < 3) × (mark (suc j) ≤ a) × (a
 
   pub too-high : second_to a ≤ b → char_width (a ∷ b ∷ s) ≡ 0
   too-high o = refused (λ e. after a b (rows j a h.0 h.1 h.2) e o)
+
+-- the next j octets of a list, where each is 10xxxxxx
+tails : (j : ℕ) (s : List ℕ) → j ≤ length s → ((k : ℕ) → k < j → get_or s k 0 / 64 ≡ 2) → Tails j s
+tails zero s h f = tt
+tails (suc j) [] h f = absurd (omega arith)
+tails (suc j) (c ∷ s) h f = (f 0 (omega arith), tails j s (omega arith) (λ k l. f (suc k) (omega arith)))
+
+-- what the code's tests say after an octet that announces n others, of which b is the first and p the rest
+pub width-taken : (n a : ℕ) (s : List ℕ) (b : ℕ) (p : List ℕ) → lead a ≡ n + 1 → n ≤ length s → take n s ≡ b ∷ p
+    → second_from a ≤ b → b < second_to a → ((k : ℕ) → k < length p → get_or p k 0 / 64 ≡ 2) → char_width (a ∷ s) ≡ n + 1
+width-taken zero a s b p e h q f t m = cc
+width-taken (suc j) a [] b p e h q f t m = cc
+width-taken (suc j) a (x ∷ s) b p e h q f t m =
+    let g = lead-range a (suc j) (omega arith) in
+    let i : x ≡ b = cc in
+    let r : take j s ≡ p = cc in
+    let l : length p ≡ j = sym (ap length r) ∙ length-take-le j s (omega arith) in
+    taken j a x s (omega arith) (omega arith) (omega arith) (tails j s (omega arith) (λ k o. sym (ap (λ (z : ℕ). z / 64) (get_or-take j s k 0 o)) ∙ ap (λ (z : List ℕ). get_or z k 0 / 64) r ∙ m k (omega arith)))
+    ∙ sym (add-one (suc j))
+
+pub width-outside : (n a : ℕ) (s : List ℕ) (b : ℕ) (p : List ℕ) → lead a ≡ n + 1 → take n s ≡ b ∷ p → (b < second_from a) ⊎ (second_to a ≤ b) → char_width (a ∷ s) ≡ 0
+width-outside zero a s b p e q o = cc
+width-outside (suc j) a [] b p e q o = cc
+width-outside (suc j) a (x ∷ s) b p e q o =
+    let g = lead-range a (suc j) (omega arith) in
+    let i : x ≡ b = cc in
+    ⊎_elim (λ l. too-low j a x s (omega arith) (omega arith)) (λ l. too-high j a x s (omega arith) (omega arith)) o
+
+pub width-torn : (n a : ℕ) (s : List ℕ) (b : ℕ) (p : List ℕ) → lead a ≡ n + 1 → n ≤ length s → take n s ≡ b ∷ p
+    → (k : ℕ) → k < length p → (get_or p k 0 / 64 ≡ 2 → ⊥) → char_width (a ∷ s) ≡ 0
+width-torn zero a s b p e h q k l m = cc
+width-torn (suc j) a [] b p e h q k l m = cc
+width-torn (suc j) a (x ∷ s) b p e h q k l m =
+    let g = lead-range a (suc j) (omega arith) in
+    let r : take j s ≡ p = cc in
+    let o : k < j = omega (arith, ap length r, length-take-le j s (omega arith)) in
+    broken-off j a x s (omega arith) (suc k) (omega arith) (λ u. m (sym (ap (λ (z : List ℕ). get_or z k 0 / 64) r) ∙ ap (λ (z : ℕ). z / 64) (get_or-take j s k 0 o) ∙ u))
 
 pub none-follows : (a b : ℕ) → 0xf8 ≤ a → second_from a ≤ b → b < second_to a → ⊥
 none-follows a b h p q = omega (arith, from-80 a (omega arith) (omega arith) (omega arith), to-80 a (omega arith) (omega arith) (omega arith))

@@ -4,24 +4,22 @@ use Prim.Native.Nat.{ℕ, zero, suc, ◌+◌, ◌*◌, ◌-◌, ◌/◌, ◌%◌
 use mathlib.Core.List.{List, [], ◌∷◌}
 use mathlib.Core.Bool.{Bool, true, false, ◌&&◌, and-false}
 use mathlib.Core.Logic.{◌⊎◌, inl, inr, ⊎_elim}
-use mathlib.Core.Path.{◌≡◌, refl, sym, ap, ◌∙◌}
-use lib.ListN.{length, get_or, drop, length-drop, drop_of_length-le}
+use mathlib.Core.Path.{◌≡◌, refl, sym, ap, subst, ◌∙◌}
+use lib.ListN.{length, get_or, drop, length-drop}
 use lib.Seq.{drop-cons, drop-drop, get_or-drop}
-use lib.Dec.{ltb, eqb}
+use lib.Dec.{eqb}
 use native.Mathlib.Nat.{zero-add}
 use native.Mathlib.Numerals.{add-one}
 use native.Mathlib.Omega.{arith}
-use borrow.Author.Tests.{ltb-true, ltb-false, lt-ltb, le-ltb, le-leb, lt-leb, eq-eqb, ne_eqb}
+use borrow.Author.Tests.{lt-ltb, le-ltb, le-leb, lt-leb, eq-eqb, ne_eqb}
+use Rattle.std.specs.List.{between, fold}
+use Rattle.std.specs.Prelude.{max, Option, None, Some}
+use Rattle.std.proofs.lemmas.List.Edits.{get_or-between, length-between}
+use Rattle.std.proofs.lemmas.Slice.{between_to_end}
+use Rattle.std.proofs.lemmas.Bool.{cases_lt}
 use Rattle.text.specs.Rfc3629.{scalar, row, mark}
 use Rattle.text.specs.Valid.{lead, fits, whole, opened, char_width, up_to, valid_up_to, valid_from}
-use Rattle.text.specs.Blocks.{Passed}
-
-pub below : (a n : ℕ) → (a < n) ⊎ (n ≤ a)
-below a n = go (ltb a n) refl
-  where
-    go : (b : Bool) → ltb a n ≡ b → (a < n) ⊎ (n ≤ a)
-    go true e = inl (ltb-true a n e)
-    go false e = inr (ltb-false a n e)
+use Rattle.text.specs.Blocks.{Passed, IsWidth}
 
 -- the first octets past those of a width
 abbrev pub past : ℕ → ℕ
@@ -59,8 +57,21 @@ lead-none a h =
     let t : 0xf0 ≤ a = omega arith in
     rw (le-ltb a 0x80, le-ltb a 0xc0, le-ltb a 0xe0, le-ltb a 0xf0, le-ltb a 0xf8)
 
-pub opens-no : (a : ℕ) (s : List ℕ) → lead a ≡ 0 → char_width (a ∷ s) ≡ 0
-opens-no a s e = rw e
+-- and the other way
+pub lead-range : (a k : ℕ) → lead a ≡ suc k → (k < 4) × (mark k ≤ a) × (a < past k)
+lead-range a k e =
+    ⊎_elim (λ l. is 0 (omega arith) (omega arith) l)
+    (λ h. ⊎_elim (λ l. let z = lead-not a h l in absurd (omega arith))
+    (λ h. ⊎_elim (λ l. is 1 (omega arith) h l)
+    (λ h. ⊎_elim (λ l. is 2 (omega arith) h l)
+    (λ h. ⊎_elim (λ l. is 3 (omega arith) h l) (λ h. let z = lead-none a h in absurd (omega arith)) (cases_lt a 0xf8))
+    (cases_lt a 0xf0))
+    (cases_lt a 0xe0))
+    (cases_lt a 0xc0))
+    (cases_lt a 0x80)
+  where
+    is : (j : ℕ) → j < 4 → mark j ≤ a → a < past j → (k < 4) × (mark k ≤ a) × (a < past k)
+    is j b h l = let q : j ≡ k = omega (arith, lead_is j a b h l) in subst (λ (n : ℕ). (n < 4) × (mark n ≤ a) × (a < past n)) q (b, h, l)
 
 -- one octet more
 module _ (k j v c : ℕ) (s : List ℕ) where
@@ -115,16 +126,6 @@ module _ (k v : ℕ) where
   pub fits-other : (row v ≡ k → ⊥) → 0 ≡ fits k v
   fits-other n = rw (ne_eqb (row v) k)
 
--- too few
-whole-short : (k j v : ℕ) (s : List ℕ) → length s < j → whole k j v s ≡ 0
-whole-short k zero v s h = absurd (omega arith)
-whole-short k (suc j) v [] h = refl
-whole-short k (suc j) v (c ∷ s) h = go (eqb (c / 64) 2) refl (whole-short k j (v * 64 + c % 64) s (omega arith))
-  where
-    go : (b : Bool) → eqb (c / 64) 2 ≡ b → whole k j (v * 64 + c % 64) s ≡ 0 → whole k (suc j) v (c ∷ s) ≡ 0
-    go true e r = rw e r
-    go false e r = rw e
-
 pub ascii : (a : ℕ) (s : List ℕ) → a < 0x80 → char_width (a ∷ s) ≡ 1
 ascii a s h =
     opens 0 a s (omega arith) (omega arith) h
@@ -133,12 +134,6 @@ ascii a s h =
 -- a list from an index: the element there, and the rest from the next index, as the code writes it
 pub from : (s : List ℕ) (at next : ℕ) → at < length s → at + 1 ≡ next → drop at s ≡ get_or s at 0 ∷ drop next s
 from s at next h e = rw (← e, add-one) (drop-cons s at 0 h)
-
-pub short-at : (k : ℕ) (s : List ℕ) (at : ℕ) → at < length s → k < 4 → mark k ≤ get_or s at 0 → get_or s at 0 < past k → length s - at ≤ k → char_width (drop at s) ≡ 0
-short-at k s at h b m p l =
-    ap char_width (from s at (at + 1) h refl)
-    ∙ opens k (get_or s at 0) (drop (at + 1) s) b m p
-    ∙ whole-short k k (get_or s at 0 - mark k) (drop (at + 1) s) (simp length-drop (omega arith))
 
 -- a character has as many octets as its first announces, and they are there
 pub whole-width : (k j v : ℕ) (s : List ℕ) → (whole k j v s ≡ 0) ⊎ ((whole k j v s ≡ suc k) × (j ≤ length s))
@@ -186,55 +181,26 @@ step (b ∷ s) (suc k) e h =
     rw (e, up_to) (omega arith)
 
 -- steps, one after the other
-pub stay : (s : List ℕ) (p : ℕ) → p ≤ length s → Passed s p p
-stay s p h = record { on = omega arith; within = h; same = refl }
-
 pub onward : {s : List ℕ} {p q r : ℕ} → Passed s p q → Passed s q r → Passed s p r
 onward a b = record { on = omega arith; within = b.within; same = b.same ∙ a.same }
 
--- a character more, at a position; no character there; the end
-module _ (s : List ℕ) (at : ℕ) where
-  further : at ≤ length s → (w : ℕ) → w ≡ char_width (drop at s) → 0 < w → Passed s at (at + w)
-  further h w e l =
-      let b : at + w ≤ length s = omega (arith, width-within (drop at s), length-drop at s) in
-      let d : valid_up_to (drop at s) ≡ w + valid_up_to (drop (at + w) s) = step (drop at s) w (sym e) l ∙ rw drop-drop in
-      record { on = omega arith; within = b; same = omega arith }
+-- no character at a position, and one
+pub bad : (s : List ℕ) (at : ℕ) → char_width (drop at s) ≡ 0 → at ≡ valid_from s at
+bad s at e = let z = stop (drop at s) e in omega arith
 
-  pub bad : char_width (drop at s) ≡ 0 → at ≡ valid_from s at
-  bad e = let z = stop (drop at s) e in omega arith
+module _ (s : List ℕ) (at w : ℕ) (h : at ≤ length s) (e : char_width (between at (length s) s) ≡ w) where
+  rest : char_width (drop at s) ≡ w
+  rest = sym (ap char_width (between_to_end s at (length s) (omega arith))) ∙ e
 
-  pub over : length s ≤ at → at ≡ valid_from s at
-  unfolding valid_up_to
-  over h = let z : valid_up_to (drop at s) ≡ 0 = rw (drop_of_length-le s h) in omega arith
+  pub further : (next : ℕ) → 0 < w → next ≡ at + w → Passed s at next
+  further next l n =
+      let b : at + w ≤ length s = omega (arith, width-within (drop at s), length-drop at s, rest) in
+      let d : valid_up_to (drop at s) ≡ w + valid_up_to (drop (at + w) s) = step (drop at s) w rest l ∙ rw drop-drop in
+      rw n (record { on = omega arith; within = b; same = omega arith })
 
--- a character has as many octets as its first announces
-announced : (a : ℕ) (s : List ℕ) → (char_width (a ∷ s) ≡ 0 → ⊥) → char_width (a ∷ s) ≡ lead a
-announced a s n = go (lead a) n
-  where
-    go : (m : ℕ) → (opened m a s ≡ 0 → ⊥) → opened m a s ≡ m
-    go zero n = absurd (n refl)
-    go (suc k) n = ⊎_elim (λ e. absurd (n e)) (λ e. e.0) (whole-width k k (a - mark k) s)
-
-pub passes-ascii : (s : List ℕ) (at : ℕ) → at < length s → get_or s at 0 < 0x80 → Passed s at (at + 1)
-passes-ascii s at h l = further s at (omega arith) 1 (sym (ap char_width (from s at (at + 1) h refl) ∙ ascii (get_or s at 0) (drop (at + 1) s) l)) (omega arith)
-
-module _ (s : List ℕ) (at : ℕ) (h : at < length s) (n : char_width (drop at s) ≡ 0 → ⊥) where
-  leads : lead (get_or s at 0) ≡ 0 → ⊥
-  leads e = n (ap char_width (from s at (at + 1) h refl) ∙ opens-no (get_or s at 0) (drop (at + 1) s) e)
-
-  passes : (k : ℕ) → lead (get_or s at 0) ≡ suc k → Passed s at (at + suc k)
-  passes k e =
-      let f = ap char_width (from s at (at + 1) h refl) in
-      further s at (omega arith) (suc k) (sym (f ∙ announced (get_or s at 0) (drop (at + 1) s) (λ z. n (f ∙ z)) ∙ e)) (omega arith)
-
-  pub passes-two : 0x80 ≤ get_or s at 0 → get_or s at 0 < 0xe0 → Passed s at (at + 2)
-  passes-two g l = passes 1 (⊎_elim (λ b. absurd (leads (lead-not (get_or s at 0) g b))) (λ b. lead_is 1 (get_or s at 0) (omega arith) b l) (below (get_or s at 0) 0xc0))
-
-  pub passes-three : 0xe0 ≤ get_or s at 0 → get_or s at 0 < 0xf0 → Passed s at (at + 3)
-  passes-three g l = passes 2 (lead_is 2 (get_or s at 0) (omega arith) g l)
-
-  pub passes-four : 0xf0 ≤ get_or s at 0 → Passed s at (at + 4)
-  passes-four g = passes 3 (⊎_elim (λ b. lead_is 3 (get_or s at 0) (omega arith) g b) (λ b. absurd (leads (lead-none (get_or s at 0) b))) (below (get_or s at 0) 0xf8))
+pub ended : (s : List ℕ) (at : ℕ) (o : Option ℕ) → at ≤ length s → IsWidth o (char_width (between at (length s) s)) → ((w : ℕ) → o ≡ Some w → ⊥) → at ≡ valid_from s at
+ended s at None h e n = bad s at (rest s at 0 h e)
+ended s at (Some w) h e n = absurd (n w refl)
 
 -- octets below 0x80, each a character
 ascii_run : (n : ℕ) (s : List ℕ) → n ≤ length s → ((k : ℕ) → k < n → get_or s k 0 < 0x80) → valid_up_to s ≡ n + valid_up_to (drop n s)
@@ -243,11 +209,28 @@ ascii_run (suc n) [] h f = absurd (omega arith)
 ascii_run (suc n) (a ∷ s) h f =
     omega (arith, step (a ∷ s) 1 (ascii a s (f 0 (omega arith))) (omega arith), ascii_run n s (omega arith) (λ k l. f (suc k) (omega arith)))
 
-pub ascii-passed : (s : List ℕ) (at n : ℕ) → at + n ≤ length s → ((k : ℕ) → k < n → get_or s (at + k) 0 < 0x80) → Passed s at (at + n)
-ascii-passed s at n h f =
+-- the first n of a part of a list
+pub ascii-passed : (s : List ℕ) (at n to : ℕ) → at + n ≤ to → to ≤ length s → ((k : ℕ) → k < n → get_or (between at to s) k 0 < 0x80) → Passed s at (at + n)
+ascii-passed s at n to h b f =
     let d : valid_up_to (drop at s) ≡ n + valid_up_to (drop (at + n) s) =
-    ascii_run n (drop at s) (simp length-drop (omega arith)) (λ k l. rw get_or-drop (f k l)) ∙ rw drop-drop in
-    record { on = omega arith; within = h; same = omega arith }
+    ascii_run n (drop at s) (simp length-drop (omega arith)) (λ k l. rw get_or-drop (omega (arith, f k l, get_or-between s at to k 0 (omega arith)))) ∙ rw drop-drop in
+    record { on = omega arith; within = omega arith; same = omega arith }
+
+-- none of the numbers is above the greatest
+max-from : (s : List ℕ) (a : ℕ) → a ≤ fold max a s
+max-from [] a = omega arith
+max-from (x ∷ s) a = omega (arith, max-from s (max a x))
+
+max-above : (s : List ℕ) (a k : ℕ) → k < length s → get_or s k 0 ≤ fold max a s
+max-above [] a k l = absurd (omega arith)
+max-above (x ∷ s) a zero l = omega (arith, max-from s (max a x))
+max-above (x ∷ s) a (suc k) l = max-above s (max a x) k (omega arith)
+
+pub ascii-block : (s : List ℕ) (at n : ℕ) → at + n ≤ length s → fold max 0 (between at (at + n) s) < 0x80 → Passed s at (at + n)
+ascii-block s at n h m =
+    let b = between at (at + n) s in
+    let l : length b ≡ n = omega (arith, length-between s at (at + n) h) in
+    ascii-passed s at n (at + n) (omega arith) h (λ k i. omega (arith, max-above b 0 k (omega arith)))
 
 up_to-within : (k : ℕ) (s : List ℕ) → up_to k s ≤ length s
 up_to-within k [] = omega arith

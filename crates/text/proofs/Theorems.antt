@@ -17,9 +17,10 @@ use native.Mathlib.Nat.{zero-add, add-zero, add-sub_cancel_left}
 use native.Mathlib.Numerals.{add-one}
 use native.Mathlib.Omega.{arith}
 use borrow.Author.Tests.{eqb-true, eqb-false}
+use Rattle.std.proofs.lemmas.Bool.{cases_lt}
 use Rattle.text.specs.Rfc3629.{scalar, row, mark, octets, encode, Text, none, char}
 use Rattle.text.specs.Valid.{lead, fits, whole, opened, char_width, valid_up_to}
-use Rattle.text.proofs.Steps.{below, scalar-past, past, opens, lead-not, lead-none, lead_is, least, row_is, tail_more, tail_none, fits-so, step, stop, whole-width, width-within, valid-within}
+use Rattle.text.proofs.Steps.{scalar-past, past, opens, lead-range, least, row_is, tail_more, tail_none, fits-so, step, stop, whole-width, width-within, valid-within}
 
 -- ---- what `char_width` takes is an encoding
 
@@ -49,21 +50,6 @@ decodes m k i (suc j) v (c ∷ s) e = go (eqb (c / 64) 2) refl (decodes m k (suc
         (r.0, r.1, subst (λ (n : ℕ). octets m n r.0 ≡ octets m i v ++ (c ∷ take j s)) n (r.2 ∙ rw (top, low, append_assoc)))
     go false h f = let z = tail_none k j v c s (eqb-false (c / 64) 2 h) in absurd (omega arith)
 
-lead-mark : (a k : ℕ) → lead a ≡ suc k → mark k ≤ a
-lead-mark a k e =
-    ⊎_elim (λ l. is 0 (omega arith) (omega arith) l)
-    (λ h. ⊎_elim (λ l. let z = lead-not a h l in absurd (omega arith))
-    (λ h. ⊎_elim (λ l. is 1 (omega arith) h l)
-    (λ h. ⊎_elim (λ l. is 2 (omega arith) h l)
-    (λ h. ⊎_elim (λ l. is 3 (omega arith) h l) (λ h. let z = lead-none a h in absurd (omega arith)) (below a 0xf8))
-    (below a 0xf0))
-    (below a 0xe0))
-    (below a 0xc0))
-    (below a 0x80)
-  where
-    is : (j : ℕ) → j < 4 → mark j ≤ a → a < past j → mark k ≤ a
-    is j b h l = let q : j ≡ k = omega (arith, lead_is j a b h l) in subst (λ (n : ℕ). mark n ≤ a) q h
-
 -- the first octet and the rest
 decoded-at : (k a : ℕ) (s : List ℕ) → mark k ≤ a → whole k k (a - mark k) s ≡ suc k → (v : ℕ) × (scalar v ≡ true) × (encode v ≡ take (suc k) (a ∷ s))
 decoded-at k a s m e =
@@ -81,7 +67,7 @@ decoded k (a ∷ s) e = go (lead a) refl e
     go (suc j) l e =
         let w : j ≡ k = ⊎_elim (λ z. absurd (omega arith)) (λ z. omega arith) (whole-width j j (a - mark j) s) in
         subst (λ (n : ℕ). (v : ℕ) × (scalar v ≡ true) × (encode v ≡ take (suc n) (a ∷ s))) w
-        (decoded-at j a s (lead-mark a j l) (e ∙ ap suc (sym w)))
+        (decoded-at j a s (lead-range a j l).1 (e ∙ ap suc (sym w)))
 
 -- ---- it takes every encoding
 
@@ -112,7 +98,7 @@ reads k i (suc j) v r =
 
 scalar_below : (v : ℕ) → scalar v ≡ true → v < 0x110000
 scalar_below v t =
-    ⊎_elim (λ h. h) (λ h. let f = scalar-past v h in let z : ◌≡◌ {A = ℕ} 0 1 = cc in absurd (omega arith)) (below v 0x110000)
+    ⊎_elim (λ h. h) (λ h. let f = scalar-past v h in let z : ◌≡◌ {A = ℕ} 0 1 = cc in absurd (omega arith)) (cases_lt v 0x110000)
 
 -- the bits of a number that are in its first octet leave that octet's fixed bits alone
 room : (v : ℕ) → scalar v ≡ true → (row v < 4) × (mark (row v) + top (row v) v < past (row v))
@@ -120,9 +106,9 @@ room v t =
     let b = scalar_below v t in
     ⊎_elim (λ l. is 0 (omega arith) (omega arith) l (omega arith))
     (λ h. ⊎_elim (λ l. is 1 (omega arith) h l (omega arith))
-    (λ h. ⊎_elim (λ l. is 2 (omega arith) h l (omega arith)) (λ h. is 3 (omega arith) h (omega arith) (omega arith)) (below v 0x10000))
-    (below v 0x800))
-    (below v 0x80)
+    (λ h. ⊎_elim (λ l. is 2 (omega arith) h l (omega arith)) (λ h. is 3 (omega arith) h (omega arith) (omega arith)) (cases_lt v 0x10000))
+    (cases_lt v 0x800))
+    (cases_lt v 0x80)
   where
     is : (k : ℕ) → k < 4 → least k ≤ v → v < least (suc k) → mark k + top k v < past k → (row v < 4) × (mark (row v) + top (row v) v < past (row v))
     is k b h l f = subst (λ (n : ℕ). (n < 4) × (mark n + top n v < past n)) (sym (row_is k v b h l)) (b, f)

@@ -1,5 +1,5 @@
 -- For contracts of private functions only: nothing here needs to be believed.
-use Rattle.std.specs.Prelude.{ℕ, ◌+◌, ◌≤◌, ◌<◌, List, ◌∷◌, cond, ◌⊎◌, ◌≡◌, ltb, eqb, length, get_or}
+use Rattle.std.specs.Prelude.{ℕ, ◌+◌, ◌≤◌, ◌<◌, List, ◌∷◌, cond, ◌⊎◌, ◌≡◌, ltb, eqb, length, get_or, Option, MatchOption}
 use Rattle.text.specs.Valid.{valid_from}
 
 -- a position further on, with the octets between passed as whole characters
@@ -7,6 +7,10 @@ pub record Passed (s : List ℕ) (from at : ℕ) : Type 0 where
   pub on : from ≤ at
   pub within : at ≤ length s
   pub same : valid_from s at ≡ valid_from s from
+
+-- a width as the code answers it: none for 0
+abbrev pub IsWidth : Option ℕ → ℕ → Type 0
+IsWidth o w = MatchOption o (w ≡ 0) (λ k. (0 < k) × (w ≡ k))
 
 -- RFC 3629, section 4: the second octet by the first, from one number to before another
 abbrev pub second_from : ℕ → ℕ

@@ -1,116 +1,55 @@
 // Characters of more than one octet.
-ghost use Rattle.std.specs.Prelude.{◌≡◌, List, ◌∷◌, ℕ, ◌<◌, ◌≤◌, length, drop};
-ghost use Rattle.text.specs.Valid.{char_width};
-ghost use Rattle.text.specs.Blocks.{second_from, second_to};
+ghost use Rattle.std.specs.Prelude.{◌≡◌, ◌∷◌, ◌+◌, ◌<◌};
+ghost use Rattle.text.specs.Valid.{lead, char_width};
+ghost use Rattle.text.specs.Blocks.{second_from, second_to, IsWidth};
 
 // RFC 3629, section 4: the second octet by the first, from one number to before another. None follows C0, C1, or F5 and above.
 fn second_from(a: u8) -> u8
     ensures { result ≡ second_from a }
 {
-    if a < 0xc2 {
-        0xc0
-    } else if a == 0xe0 {
-        0xa0
-    } else if a == 0xf0 {
-        0x90
-    } else {
-        0x80
+    match a {
+        0..=0xc1 => 0xc0,
+        0xe0 => 0xa0,
+        0xf0 => 0x90,
+        _ => 0x80,
     }
 }
 
 fn second_to(a: u8) -> u8
     ensures { result ≡ second_to a }
 {
-    if a == 0xed {
-        0xa0
-    } else if a == 0xf4 {
-        0x90
-    } else if a < 0xf5 {
-        0xc0
+    match a {
+        0xed => 0xa0,
+        0xf4 => 0x90,
+        0..=0xf4 => 0xc0,
+        _ => 0x80,
+    }
+}
+
+// The width of a character of 1 + N octets, by the first and what follows it.
+fn wide<const N: usize>(a: u8, rest: &[u8]) -> Option<usize>
+    requires { (0 < N) × (lead a ≡ N + 1) }
+    ensures { IsWidth result (char_width (a ∷ rest.now)) }
+{
+    let (b, others) = rest.get(..N)?.split_first()?;
+    if (second_from(a)..second_to(a)).contains(b) && others.iter().all(|c| c / 64 == 2) {
+        Some(N + 1)
     } else {
-        0x80
+        None
     }
 }
 
-// The width of a character of two octets by its first, of three, and of four.
-fn two(a: u8, b: u8) -> usize
-    requires { (0xc0 ≤ a) × (a < 0xe0) }
-    ensures { (s : List ℕ) → result ≡ char_width (a ∷ b ∷ s) }
+// The width of the character that octets begin with.
+pub(crate) fn char_width(s: &[u8]) -> Option<usize>
+    ensures { IsWidth result (char_width s.now) }
 {
-    if b < second_from(a) {
-        return 0;
+    let (first, rest) = s.split_first()?;
+    let a = *first;
+    match a {
+        0..=0x7f => Some(1),
+        0xc0..=0xdf => wide::<1>(a, rest),
+        0xe0..=0xef => wide::<2>(a, rest),
+        0xf0..=0xf7 => wide::<3>(a, rest),
+        _ => None,
     }
-    if b >= second_to(a) {
-        return 0;
-    }
-    2
-}
-
-fn three(a: u8, b: u8, c: u8) -> usize
-    requires { (0xe0 ≤ a) × (a < 0xf0) }
-    ensures { (s : List ℕ) → result ≡ char_width (a ∷ b ∷ c ∷ s) }
-{
-    if b < second_from(a) {
-        return 0;
-    }
-    if b >= second_to(a) {
-        return 0;
-    }
-    if c / 64 != 2 {
-        return 0;
-    }
-    3
-}
-
-fn four(a: u8, b: u8, c: u8, d: u8) -> usize
-    requires { (0xf0 ≤ a) × (a < 0xf8) }
-    ensures { (s : List ℕ) → result ≡ char_width (a ∷ b ∷ c ∷ d ∷ s) }
-{
-    if b < second_from(a) {
-        return 0;
-    }
-    if b >= second_to(a) {
-        return 0;
-    }
-    if c / 64 != 2 {
-        return 0;
-    }
-    if d / 64 != 2 {
-        return 0;
-    }
-    4
-}
-
-// The width of the character at a position, 0 where there is none.
-pub(crate) fn char_width(s: &[u8], at: usize) -> usize
-    requires { at < length s.now }
-    ensures { result ≡ char_width (drop at s.now) }
-{
-    let a = s[at];
-    if a < 0x80 {
-        return 1;
-    }
-    if a < 0xc0 {
-        return 0;
-    }
-    let left = s.len() - at;
-    if a < 0xe0 {
-        if left < 2 {
-            return 0;
-        }
-        return two(a, s[at + 1]);
-    }
-    if a < 0xf0 {
-        if left < 3 {
-            return 0;
-        }
-        return three(a, s[at + 1], s[at + 2]);
-    }
-    if a < 0xf8 {
-        if left < 4 {
-            return 0;
-        }
-        return four(a, s[at + 1], s[at + 2], s[at + 3]);
-    }
-    0
 }

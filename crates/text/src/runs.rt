@@ -1,5 +1,5 @@
 // Runs of whole characters, by blocks.
-ghost use Rattle.std.specs.Prelude.{◌≡◌, true, false, ◌+◌, ◌<◌, ◌≤◌, length, get_or};
+ghost use Rattle.std.specs.Prelude.{◌≡◌, true, false, ◌+◌, ◌<◌, ◌≤◌, length, get_or, IfSome};
 ghost use Rattle.text.specs.Blocks.{Clean, pad, CleanUpTo, QuietAt, Passed};
 
 use crate::ascii::ascii_next;
@@ -18,7 +18,7 @@ fn flaw(w: u8, x: u8, y: u8, z: u8) -> bool
     (need ^ next) | first | low | high
 }
 
-// Is one of the n octets from a position wrong after the three before it?
+// Is one of the n octets from a position wrong after the three before it? By index: slower over `array_windows`, by 3 in 100.
 fn broken(s: &[u8], at: usize, n: usize) -> bool
     requires { (3 ≤ at) × (at + n ≤ length s.now) }
     ensures { result ≡ false → CleanUpTo s.now at (at + n) }
@@ -26,12 +26,12 @@ fn broken(s: &[u8], at: usize, n: usize) -> bool
     let mut bad = false;
     for i in 0..n {
         let p = at + i;
-        bad = bad | flaw(s[p - 3], s[p - 2], s[p - 1], s[p]);
+        bad |= flaw(s[p - 3], s[p - 2], s[p - 1], s[p]);
     }
     bad
 }
 
-// The octet at an index of the text with three zeros in front.
+// The octet at an index of the text with three zeros in front. An `if` says it plainer than `checked_sub` and `map_or`.
 fn padded(s: &[u8], i: usize) -> u8
     requires { i < length s.now + 3 }
     ensures { result ≡ get_or (pad s.now) i 0 }
@@ -44,21 +44,21 @@ fn quiet(s: &[u8], at: usize) -> bool
     requires { at ≤ length s.now }
     ensures { result ≡ true → QuietAt s.now at }
 {
-    (padded(s, at) < 0xf0) & (padded(s, at + 1) < 0xe0) & (padded(s, at + 2) < 0xc0)
+    padded(s, at) < 0xf0 && padded(s, at + 1) < 0xe0 && padded(s, at + 2) < 0xc0
 }
 
-// A position further on: past the first three octets, where they are right.
-fn opening(s: &[u8], from: usize) -> usize
+// Where octets have three before them: at a position, or past the first three where they are right.
+fn opening(s: &[u8], from: usize) -> Option<usize>
     requires { (from ≤ length s.now) × (3 ≤ length s.now) }
-    ensures { CleanUpTo s.now from result }
+    ensures { IfSome result (λ at. (3 ≤ at) × CleanUpTo s.now from at) }
 {
     if from >= 3 {
-        return from;
+        return Some(from);
     }
-    if flaw(0, 0, 0, s[0]) | flaw(0, 0, s[0], s[1]) | flaw(0, s[0], s[1], s[2]) {
-        return from;
+    if flaw(0, 0, 0, s[0]) || flaw(0, 0, s[0], s[1]) || flaw(0, s[0], s[1], s[2]) {
+        return None;
     }
-    3
+    Some(3)
 }
 
 // Past each n octets that are right, up to a run of ASCII.
@@ -66,13 +66,14 @@ fn clean_blocks(s: &[u8], from: usize, n: usize) -> usize
     requires { (0 < n) × (3 ≤ from) × (from ≤ length s.now) }
     ensures { CleanUpTo s.now from result }
 {
+    // Steps by n.
     let mut at = from;
     while s.len() - at >= n {
         if broken(s, at, n) {
             return at;
         }
         at += n;
-        if ascii_next(s, at, 64) {
+        if ascii_next(s, at) {
             return at;
         }
     }
@@ -88,10 +89,8 @@ fn clean_end(s: &[u8], from: usize) -> usize
     if left >= 32 {
         return from;
     }
-    if left > 16 {
-        if broken(s, from, 16) {
-            return from;
-        }
+    if left > 16 && broken(s, from, 16) {
+        return from;
     }
     if broken(s, s.len() - 16, 16) {
         return from;
@@ -99,25 +98,21 @@ fn clean_end(s: &[u8], from: usize) -> usize
     s.len()
 }
 
-// The same from the end of a character to the end of another.
+// From the end of a character to the end of another, in a text that is not short.
 #[tactic(auto, using(crate::proofs::Blocks::passed))]
-pub(crate) fn text_blocks(s: &[u8], from: usize) -> usize
-    requires { (from ≤ length s.now) × (19 ≤ length s.now) }
-    ensures { Passed s.now from result }
+pub(crate) fn text_blocks(s: &[u8], from: usize) -> Option<usize>
+    requires { from ≤ length s.now }
+    ensures { IfSome result (λ at. (from < at) × Passed s.now from at) }
 {
-    if !quiet(s, from) {
-        return from;
+    if s.len() - from < 28 || !quiet(s, from) {
+        return None;
     }
-    let open = opening(s, from);
-    if open < 3 {
-        return from;
-    }
-    let mut at = clean_end(s, clean_blocks(s, open, 32));
-    while at > from {
+    let open = opening(s, from)?;
+    let end = clean_end(s, clean_blocks(s, open, 32));
+    for at in (from + 1..end + 1).rev() {
         if quiet(s, at) {
-            return at;
+            return Some(at);
         }
-        at -= 1;
     }
-    from
+    None
 }

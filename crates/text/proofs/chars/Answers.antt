@@ -1,31 +1,19 @@
-use Rattle.text.proofs.Steps.{stay, onward, over, passes-ascii, passes-two, passes-three, passes-four}
+use Rattle.text.proofs.Steps.{onward, further, ended}
 use mathlib.Core.Path.{◌∙◌}
 use native.Mathlib.Omega.{arith}
 use Rattle.text.proofs.chars.Goals as goal
 
-pub loop-at-init : goal.loop-at-init
-loop-at-init c = stay _ _ (omega arith)
+pub loop-width-preserved-in-1 : goal.loop-width-preserved-in-1
+loop-width-preserved-in-1 c = onward c.loop-width.invariant (onward (further _ _ _ (omega arith) c.in-Some.ensures.1 _ c.in-Some.ensures.0 (omega arith)) c.ascii_bytes-at.ensures)
 
-pub loop-at-preserved-then-a-lt128 : goal.loop-at-preserved-then-a-lt128
-loop-at-preserved-then-a-lt128 c = onward c.loop-at.invariant (onward (passes-ascii _ _ (omega arith) (omega arith)) c.ascii_bytes-at.ensures)
+pub loop-width-preserved-in-2 : goal.loop-width-preserved-in-2
+loop-width-preserved-in-2 c = onward c.loop-width.invariant (further _ _ _ (omega arith) c.in-Some.ensures.1 _ c.in-Some.ensures.0 (omega arith))
 
-pub overflow_add-at-then-a-lt224 : goal.overflow_add-at-then-a-lt224
-overflow_add-at-then-a-lt224 c = let r = passes-two c.args.s.now c.loop-at.at (omega arith) (λ e. omega arith) (omega arith) (omega arith) in omega arith
+pub loop-width-preserved-in-3 : goal.loop-width-preserved-in-3
+loop-width-preserved-in-3 c = onward c.loop-width.invariant (further _ _ _ (omega arith) c.in-Some.ensures.1 _ c.in-Some.ensures.0 (omega arith))
 
-pub loop-at-preserved-then-a-lt224 : goal.loop-at-preserved-then-a-lt224
-loop-at-preserved-then-a-lt224 c = onward c.loop-at.invariant (passes-two _ _ (omega arith) (λ e. omega arith) (omega arith) (omega arith))
-
-pub overflow_add-at-then-a-lt240 : goal.overflow_add-at-then-a-lt240
-overflow_add-at-then-a-lt240 c = let r = passes-three c.args.s.now c.loop-at.at (omega arith) (λ e. omega arith) (omega arith) (omega arith) in omega arith
-
-pub loop-at-preserved-then-a-lt240 : goal.loop-at-preserved-then-a-lt240
-loop-at-preserved-then-a-lt240 c = onward c.loop-at.invariant (passes-three _ _ (omega arith) (λ e. omega arith) (omega arith) (omega arith))
-
-pub overflow_add-at-in-loop-at : goal.overflow_add-at-in-loop-at
-overflow_add-at-in-loop-at c = let r = passes-four c.args.s.now c.loop-at.at (omega arith) (λ e. omega arith) (omega arith) in omega arith
-
-pub loop-at-preserved : goal.loop-at-preserved
-loop-at-preserved c = onward c.loop-at.invariant (passes-four _ _ (omega arith) (λ e. omega arith) (omega arith))
+pub loop-width-preserved : goal.loop-width-preserved
+loop-width-preserved c = onward c.loop-width.invariant (further _ _ _ (omega arith) c.in-Some.ensures.1 _ c.in-Some.ensures.0 (omega arith))
 
 pub returns : goal.returns
-returns c = over _ _ (omega arith) ∙ c.loop-at.invariant.same
+returns c = ended _ _ c.char_width.result (omega arith) c.char_width.ensures c.in_default.not-Some ∙ c.loop-width.invariant.same

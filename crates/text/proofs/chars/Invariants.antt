@@ -3,8 +3,8 @@ use lib.ListN.{length}
 use Prim.Native.Nat.{◌-◌}
 use Rattle.text.proofs.chars.Given as goal
 
-abbrev pub invariant-loop-at : goal.invariant-loop-at
-invariant-loop-at l = Passed l.s l.from l.at
+abbrev pub invariant-loop-width : goal.invariant-loop-width
+invariant-loop-width l = Passed l.s l.from l.at
 
-abbrev pub decreases-loop-at : goal.decreases-loop-at
-decreases-loop-at l = length l.s - l.at
+abbrev pub decreases-loop-width : goal.decreases-loop-width
+decreases-loop-width l = length l.s - l.at

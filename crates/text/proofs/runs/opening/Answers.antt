@@ -1,14 +1,11 @@
-use Rattle.text.proofs.Blocks.{clean-none, clean-next, clean-part, neither}
+use Rattle.text.proofs.Blocks.{clean-none, clean-next, clean-part}
 use mathlib.Core.Path.{refl}
-use mathlib.Core.Bool.{◌||◌}
 use native.Mathlib.Omega.{arith}
 use Rattle.text.proofs.runs.opening.Goals as goal
 
-pub returns-then-from-ge3 : goal.returns-then-from-ge3
-returns-then-from-ge3 c = clean-none _ _ _ refl (omega arith)
-
-pub returns-then-flaw : goal.returns-then-flaw
-returns-then-flaw c = clean-none _ _ _ refl (omega arith)
-
 pub returns : goal.returns
-returns c = let a = neither (c.flaw.result || c.flaw-2.result) c.flaw-3.result c.if-flaw.false in let b = neither c.flaw.result c.flaw-2.result a.0 in let s = c.args.s.now in let one = clean-next {s = s} 1 (clean-none s 0 0 refl (omega arith)) refl (omega arith) (c.flaw.ensures b.0) in let two = clean-next {s = s} 2 one refl (omega arith) (c.flaw-2.ensures b.1) in clean-part _ _ (clean-next {s = s} 3 two refl (omega arith) (c.flaw-3.ensures a.1)) (omega arith) (omega arith) (omega arith)
+returns c =
+    let s = c.args.s.now in
+    let one = clean-next {s = s} 1 (clean-none s 0 0 refl (omega arith)) refl (omega arith) (c.flaw.ensures c.if-flaw.false) in
+    let two = clean-next {s = s} 2 one refl (omega arith) (c.flaw-else-flaw.ensures c.if-flaw-2.false) in
+    (omega arith, clean-part _ _ (clean-next {s = s} 3 two refl (omega arith) (c.flaw-else-flaw-2.ensures c.if-flaw-3.false)) (omega arith) (omega arith) (omega arith))
