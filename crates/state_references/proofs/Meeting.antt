@@ -5,6 +5,7 @@ use mathlib.Core.Path.{◌≡◌, refl, sym, ap, ◌∙◌}
 use mathlib.Core.Bool.{Bool, true, false, not, ◌&&◌, ◌||◌, and-true, or-true, or-false, false≢true}
 use mathlib.Core.List.{List, [], ◌∷◌, map}
 use lib.ListN.{length, get_or}
+use Rattle.std.specs.Prelude.{Option, Some, None}
 use Rattle.state.specs.Bytes.{span}
 use Rattle.state.proofs.Bytes.{span-cons, span_none}
 use Rattle.format.specs.Lists.{same, is_in, all_different}
@@ -12,8 +13,6 @@ use Rattle.format.specs.Manifest.{Section}
 use Rattle.format.specs.Places.{key_at}
 use Rattle.format.proofs.Lists.{same-sym}
 use Rattle.questions.specs.Sets.{all, all_in, same_set, each_once}
-use Rattle.state_index.specs.declared.Found.{Found}
-use Rattle.state_index.specs.declared.Found.TheVariants.{At, Nothing}
 use Rattle.state_index.specs.Sort.{Kept}
 use Rattle.state_index.proofs.Lists.{filled}
 use Rattle.state_layout.specs.Marks.{is_set, keys_at, Keyed, Marked, MarksNew}
@@ -127,13 +126,13 @@ module _ {e : Section} {s old : List ℕ} {first last from to marks : ℕ} where
     pub meets-fits : last ≤ length new
     meets-fits = omega (arith, m.inside, m.marked.keyed.fits)
 
-    module _ (h : i < last) {p : ℕ} {key : List ℕ} {f : Found} {after : List ℕ} (a : p ≡ get_or new i 0) (b : key ≡ key_at e s p) (r : MarksNew e s from to marks key f new after) where
+    module _ (h : i < last) {p : ℕ} {key : List ℕ} {f : Option ℕ} {after : List ℕ} (a : p ≡ get_or new i 0) (b : key ≡ key_at e s p) (r : MarksNew e s from to marks key f new after) where
       next-key : keys_at e s old i last ≡ key ∷ keys_at e s old (i + 1) last
       next-key =
           ap (map (key_at e s)) (sym (span-kept m.kept i last m.inside) ∙ span-cons new i last h meets-fits)
           ∙ rw (b, a, span-kept m.kept (i + 1) last m.inside)
 
-      pub meets-next : {w : ℕ} → f ≡ At w → Meets e s old first last from to marks after (i + 1)
+      pub meets-next : {w : ℕ} → f ≡ Some w → Meets e s old first last from to marks after (i + 1)
       unfolding met
       meets-next {w} j =
           let q = r.found w j m.seen m.marked in
@@ -149,7 +148,7 @@ module _ {e : Section} {s old : List ℕ} {first last from to marks : ℕ} where
             ends = rw next-key at m.ends;
           }
 
-      pub meets-stop : f ≡ Nothing → MarksAll e s from to marks (keys_at e s old first last) false old after
+      pub meets-stop : f ≡ None → MarksAll e s from to marks (keys_at e s old first last) false old after
       meets-stop j =
           let q = r.nothing j m.seen m.marked in
           record {

@@ -5,6 +5,7 @@ mod entries;
 mod sets;
 
 ghost use Rattle.std.specs.Prelude.{◌≡◌, map, suc, ◌-◌, ◌≤◌, ◌<◌, length};
+ghost use Rattle.state.specs.Outcome.{said};
 ghost use Rattle.format.specs.Lists.{all_different};
 ghost use Rattle.format.specs.Fields.{connectors_of, boundary_outputs_of, output_name};
 ghost use Rattle.questions.specs.Sets.{all, each_once, first};
@@ -16,12 +17,12 @@ ghost use Rattle.state_references.specs.Listed.{keys_listed, Lists, MarksListed}
 
 use entries::all_hold;
 use sets::{all_new, texts_differ};
-use state::Section;
+use state::{Question, Section};
 use state_index::{key_part, word_at};
 use state_key_order::same_bytes;
 use state_layout::hints::put_hints;
 use state_layout::marks::all_marked;
-use state_layout::table_start;
+use state_layout::{table_at, table_start};
 
 // How many entries a section has.
 fn count_of(s: &[u8], index: &[u32], section: u8) -> usize
@@ -29,7 +30,8 @@ fn count_of(s: &[u8], index: &[u32], section: u8) -> usize
     requires section_bound { (section ≤ 12) × (table_start section (manifest_of s.now) ≤ table_start (suc section) (manifest_of s.now)) }
     ensures { result ≡ table_start (suc section) (manifest_of s.now) - table_start section (manifest_of s.now) }
 {
-    table_start(s, index, section + 1) - table_start(s, index, section)
+    let table = table_at(s, index, section);
+    table.to - table.from
 }
 
 // Whether what is asked of an entry by itself holds of each of a section's.
@@ -38,11 +40,9 @@ fn entries_hold(s: &[u8], index: &[u32], section: u8) -> bool
     requires section_bound { section ≤ 12 }
     ensures { result ≡ all (holds_at s.now (connector_names (connectors_of (manifest_of s.now))) section) (table_of section s.now index.now) }
 {
-    let from = table_start(s, index, Section::CONNECTORS);
-    let to = table_start(s, index, Section::CONNECTIONS);
-    let first = table_start(s, index, section);
-    let last = table_start(s, index, section + 1);
-    all_hold(s, index, section, first, last, from, to)
+    let entries = table_at(s, index, section);
+    let connectors = table_at(s, index, Section::CONNECTORS);
+    all_hold(s, index, section, entries, connectors)
 }
 
 // Are the keys that a section lists known, as those of another section, and all different?
@@ -50,12 +50,10 @@ fn all_listed_new(s: &[u8], index: &mut [u32], section: u8, listed: u8) -> bool
     requires { Lists section listed s.now index.old }
     ensures { MarksListed section listed s.now result index.old index.new }
 {
-    let from = table_start(s, index, section);
-    let to = table_start(s, index, section + 1);
-    let first = table_start(s, index, listed);
-    let last = table_start(s, index, listed + 1);
+    let keys = table_at(s, index, listed);
+    let table = table_at(s, index, section);
     let marks = table_start(s, index, 13);
-    all_new(s, index, section, first, last, from, to, marks)
+    all_new(s, index, section, keys, table, marks)
 }
 
 // Are they the other section's keys, each once?
@@ -68,8 +66,7 @@ fn require_exact_set(s: &[u8], index: &mut [u32], section: u8, listed: u8) -> bo
         return false;
     }
     let marks = table_start(s, index, 13);
-    let count = count_of(s, index, section);
-    all_marked(index, marks, marks + count)
+    all_marked(index, marks, marks + count_of(s, index, section))
 }
 
 // Are the names of the boundary outputs, with which they start, all different?
@@ -78,34 +75,32 @@ fn names_differ(s: &[u8], index: &mut [u32]) -> bool
     ensures value { result ≡ all_different (map output_name (boundary_outputs_of (manifest_of s.now))) }
     ensures leaves { Leaves s.now index.old index.new }
 {
-    let first = table_start(s, index, Section::BOUNDARY_OUTPUTS);
-    let last = table_start(s, index, Section::INPUT_DEFINITIONS);
+    let names = table_at(s, index, Section::BOUNDARY_OUTPUTS);
     let room = table_start(s, index, 13);
-    texts_differ(s, index, first, last, room)
+    texts_differ(s, index, names, room)
 }
 
-// Questions 17 to 20: 0, or the number of the first that says no.
-fn first_no(s: &[u8], index: &mut [u32]) -> u8
+// Questions 17 to 20.
+fn ask_references(s: &[u8], index: &mut [u32]) -> Result<(), Question>
     requires { Tabled s.now index.old }
-    ensures value { result ≡ first (references (manifest_of s.now)) }
+    ensures value { result ≡ said (first (references (manifest_of s.now))) }
     ensures leaves { Leaves s.now index.old index.new }
 {
     if !entries_hold(s, index, Section::CONNECTIONS) {
-        return 17;
+        return Err(Question(17));
     }
     if !require_exact_set(s, index, Section::BLOCKS, Section::SCHEDULE) {
-        return 18;
+        return Err(Question(18));
     }
     if !require_exact_set(s, index, Section::CONNECTORS, Section::CONNECTOR_ORDER) {
-        return 19;
+        return Err(Question(19));
     }
-    if count_of(s, index, Section::DRIVER_OF) != count_of(s, index, Section::CONNECTORS) {
-        return 20;
+    if count_of(s, index, Section::DRIVER_OF) != count_of(s, index, Section::CONNECTORS)
+        || !entries_hold(s, index, Section::DRIVER_OF)
+    {
+        return Err(Question(20));
     }
-    if !entries_hold(s, index, Section::DRIVER_OF) {
-        return 20;
-    }
-    0
+    Ok(())
 }
 
 // Are the keys at two words the same?
@@ -124,20 +119,13 @@ fn ends_alike(s: &[u8], index: &[u32], section: u8, listed: u8) -> bool
     requires tabled { Tabled s.now index.now }
     requires section_bound { (section ≤ 12) × (listed ≤ 12) }
 {
-    let from = table_start(s, index, section);
-    let to = table_start(s, index, section + 1);
-    let first = table_start(s, index, listed);
-    let last = table_start(s, index, listed + 1);
-    if to <= from {
+    let table = table_at(s, index, section);
+    let keys = table_at(s, index, listed);
+    if table.to <= table.from || keys.to <= keys.from {
         return true;
     }
-    if last <= first {
-        return true;
-    }
-    if !same_at(s, index, section, from, first) {
-        return false;
-    }
-    same_at(s, index, section, to - 1, last - 1)
+    same_at(s, index, section, table.from, keys.from)
+        && same_at(s, index, section, table.to - 1, keys.to - 1)
 }
 
 // Hints of the blocks, if the schedule needs them.
@@ -151,33 +139,33 @@ fn put_block_hints(s: &[u8], index: &mut [u32])
 }
 
 // Questions 17 to 20, with hints of the tables in which keys are looked up; the connectors' serve 25 and 26 as well.
-pub fn validate_references(s: &[u8], index: &mut [u32]) -> u8
+pub fn validate_references(s: &[u8], index: &mut [u32]) -> Result<(), Question>
     requires { Tabled s.now index.old }
-    ensures value { result ≡ first (references (manifest_of s.now)) }
+    ensures value { result ≡ said (first (references (manifest_of s.now))) }
     ensures leaves { Leaves s.now index.old index.new }
 {
     put_block_hints(s, index);
     put_hints(s, index, Section::CONNECTORS);
-    first_no(s, index)
+    ask_references(s, index)
 }
 
 // Questions 25 and 26.
-pub fn validate_boundaries(s: &[u8], index: &mut [u32]) -> u8
+pub fn validate_boundaries(s: &[u8], index: &mut [u32]) -> Result<(), Question>
     requires { Tabled s.now index.old }
-    ensures value { result ≡ first (boundaries (manifest_of s.now)) }
+    ensures value { result ≡ said (first (boundaries (manifest_of s.now))) }
     ensures leaves { Leaves s.now index.old index.new }
 {
     if !entries_hold(s, index, Section::EXTERNAL_INPUTS) {
-        return 25;
+        return Err(Question(25));
     }
     if !all_listed_new(s, index, Section::CONNECTORS, Section::EXTERNAL_INPUTS) {
-        return 25;
+        return Err(Question(25));
     }
     if !entries_hold(s, index, Section::BOUNDARY_OUTPUTS) {
-        return 26;
+        return Err(Question(26));
     }
     if !names_differ(s, index) {
-        return 26;
+        return Err(Question(26));
     }
-    0
+    Ok(())
 }

@@ -1,10 +1,18 @@
-use Rattle.state_references.proofs.Placed.{hold-requires, hold-answer}
+use native.Mathlib.Omega.{arith}
+use Rattle.state_layout.proofs.Indexed.{start-le, table-connectors}
+use Rattle.state_layout.proofs.Names.{names-connectors}
+use Rattle.state_references.proofs.Placed.{end-there, keyed-connectors}
 use Rattle.state_references.proofs.entries_hold.Goals as goal
 
 pub all_hold-requires : goal.all_hold-requires
 all_hold-requires c =
-    let p = hold-requires c.requires.tabled _ c.table_start-from.ensures c.table_start-to.ensures c.table_start-last.ensures c.requires.section_bound in record { keyed = p.0; last_in_bounds = p.1 }
+    let t = c.requires.tabled in
+    record {
+      keyed = rw c.table_at-connectors.ensures (keyed-connectors t _ (omega arith) (start-le _ 5 (omega arith)));
+      in_bounds = end-there t c.requires.section_bound c.table_at-entries.ensures;
+    }
 
 pub returns : goal.returns
 returns c =
-    hold-answer c.requires.tabled _ c.table_start-from.ensures c.table_start-to.ensures c.table_start-last.ensures c.table_start-first.ensures c.all_hold.ensures
+    let t = c.requires.tabled in
+    rw (c.table_at-connectors.ensures, c.table_at-entries.ensures, names-connectors t.bytes (table-connectors t)) at c.all_hold.ensures

@@ -1,11 +1,14 @@
-use Rattle.state_references.proofs.Placed.{differ-requires, differ-leaves}
-use Rattle.state_references.proofs.Answered.{names-answer}
+use native.Mathlib.Omega.{arith}
+use Rattle.state_layout.proofs.Indexed.{tabled-kept, table-outputs}
+use Rattle.state_references.proofs.Placed.{differ-requires}
+use Rattle.state_references.proofs.Valued.{names-outputs}
 use Rattle.state_references.proofs.names_differ.Goals as goal
 
 pub texts_differ-requires : goal.texts_differ-requires
-texts_differ-requires c =
-    differ-requires c.requires c.table_start-first.ensures c.table_start-last.ensures c.table_start-room.ensures
+texts_differ-requires c = rw (c.table_at-names.ensures, c.table_start-room.ensures) (differ-requires c.requires)
 
 pub returns : goal.returns
-returns c =
-    record { value = names-answer c.requires c.table_start-first.ensures c.table_start-last.ensures c.texts_differ.ensures.value; leaves = differ-leaves c.requires c.table_start-first.ensures c.table_start-last.ensures c.table_start-room.ensures c.texts_differ.ensures.kept }
+returns c = record {
+  value = rw (c.table_at-names.ensures, names-outputs (table-outputs c.requires)) at c.texts_differ.ensures.value;
+  leaves = tabled-kept _ _ c.requires c.texts_differ.ensures.kept (omega arith);
+}

@@ -10,10 +10,10 @@ pub table_start-marks-requires : goal.table_start-marks-requires
 table_start-marks-requires c =
     record { tabled = (marks-leave c.requires c.all_listed_new.ensures).tabled; section_bound = omega arith }
 
-pub count_of-count-requires : goal.count_of-count-requires
-count_of-count-requires c =
+pub count_of-requires : goal.count_of-requires
+count_of-requires c =
     record { tabled = (marks-leave c.requires c.all_listed_new.ensures).tabled; section_bound = (c.requires.known.0, c.requires.keyed.forward) }
 
 pub returns : goal.returns
 returns c =
-    let p = each_all c.requires c.all_listed_new.ensures c.if-not-all_listed_new.false c.table_start-marks.ensures c.count_of-count.ensures c.all_marked.ensures in record { value = p.0; leaves = p.1 }
+    let p = each_all c.requires c.all_listed_new.ensures c.if-not-all_listed_new.false c.table_start-marks.ensures c.count_of.ensures c.all_marked.ensures in record { value = p.0; leaves = p.1 }

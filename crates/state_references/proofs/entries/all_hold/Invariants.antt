@@ -1,4 +1,3 @@
-use Prim.Native.Nat.{◌-◌}
 use mathlib.Core.Path.{◌≡◌}
 use Rattle.state.specs.Bytes.{span}
 use Rattle.format.specs.Manifest.{connectors}
@@ -9,8 +8,5 @@ use Rattle.state_references.proofs.entries.all_hold.Given as goal
 
 abbrev pub invariant-loop-i : goal.invariant-loop-i
 invariant-loop-i l =
-    let t = holds_at l.s (keys_at connectors l.s l.index l.from l.to) l.section in
-    all t (span l.index l.i l.last) ≡ all t (span l.index l.first l.last)
-
-abbrev pub decreases-loop-i : goal.decreases-loop-i
-decreases-loop-i l = l.last - l.i
+    let t = holds_at l.s (keys_at connectors l.s l.index l.table.from l.table.to) l.section in
+    all t (span l.index l.i l.i-end) ≡ all t (span l.index l.fn.entries.from l.i-end)

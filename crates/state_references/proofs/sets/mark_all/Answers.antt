@@ -3,36 +3,25 @@ use native.Mathlib.Omega.{arith}
 use Rattle.state_references.proofs.sets.mark_all.Goals as goal
 
 pub loop-i-init : goal.loop-i-init
-loop-i-init c = meets-start c.requires.marked c.requires.last_le_marks
+loop-i-init c = meets-start c.requires.marked c.requires.listed_le_marks
 
 pub word_at-requires : goal.word_at-requires
-word_at-requires c = omega (arith, c.loop-i-test.true, meets-fits c.loop-i.invariant)
+word_at-requires c = omega (arith, meets-fits c.loop-i.invariant)
 
-pub mark_new-f-requires : goal.mark_new-f-requires
-mark_new-f-requires c = c.loop-i.invariant.marked.keyed
+pub mark_new-requires : goal.mark_new-requires
+mark_new-requires c = c.loop-i.invariant.marked.keyed
 
 pub returns-in_default : goal.returns-in_default
 returns-in_default c =
-    meets-stop c.loop-i.invariant c.loop-i-test.true c.word_at.ensures c.key_part-key.ensures c.mark_new-f.ensures c.in_default.is
+    meets-stop c.loop-i.invariant (omega arith) c.word_at.ensures c.key_part-key.ensures c.mark_new.ensures c.in_default.is
 
 pub overflow_add-hint : goal.overflow_add-hint
 overflow_add-hint c =
-    omega (arith, c.mark_new-f.ensures.at _ c.in-At.is, c.loop-i.invariant.below, c.loop-i.invariant.marked.keyed.fits)
-
-pub overflow_add-i : goal.overflow_add-i
-overflow_add-i c =
-    omega (arith, c.loop-i-test.true)
-
-pub loop-i-smaller : goal.loop-i-smaller
-loop-i-smaller c =
-    omega (arith, c.loop-i-test.true)
+    omega (arith, c.mark_new.ensures.at _ c.in-Some.is, c.loop-i.invariant.below, c.loop-i.invariant.marked.keyed.fits)
 
 pub loop-i-preserved : goal.loop-i-preserved
 loop-i-preserved c =
-    meets-next c.loop-i.invariant c.loop-i-test.true c.word_at.ensures c.key_part-key.ensures c.mark_new-f.ensures c.in-At.is
-
-pub shape_of-index : goal.shape_of-index
-shape_of-index c = c.loop-i.invariant.kept.long
+    meets-next c.loop-i.invariant (omega arith) c.word_at.ensures c.key_part-key.ensures c.mark_new.ensures c.in-Some.is
 
 pub returns : goal.returns
-returns c = meets-end c.loop-i.invariant c.loop-i-test.false
+returns c = meets-end c.loop-i.invariant (omega arith)
