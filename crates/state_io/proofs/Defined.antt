@@ -17,11 +17,11 @@ use Rattle.format.proofs.Lists.{same_refl, same-sym}
 use Rattle.questions.specs.Sets.{all, any, first}
 use Rattle.questions.proofs.Chains.{says-yes, says-no}
 use Rattle.questions.specs.Inputs.{same_type, bound_answer}
+use Rattle.state_index.specs.declared.SortKey.TheVariants.{Text}
 use Rattle.state_index.specs.Keys.{text_at, at_most, sort_key}
 use Rattle.state_index.specs.Sort.{Ordered}
 use Rattle.state_index.specs.Find.{key_at_most, Finds}
-use Rattle.state_index.specs.declared.Found.{Found}
-use Rattle.state_index.specs.declared.Found.TheVariants.{At, Nothing}
+use Rattle.std.specs.Prelude.{Option, Some, None}
 use Rattle.state_index.proofs.Search.{span-get}
 use Rattle.state_index.proofs.Order.{apart, is_false}
 use Rattle.state_layout.specs.Classes.{classes_at}
@@ -78,7 +78,7 @@ module _ (s : List ℕ) (d : Entry input_definitions) where
       go false i = none_of (agree s (get_or qs j 0)) defines (other (get_or qs j 0) is i) qs (all-at (λ p. all (agree s p) qs) qs a j h)
 
 -- ---- a definition by its bytes
-pub seek-order : (s l : List ℕ) → Ordered (at_most 0 s) l → Ordered (key_at_most (numbered 12) s) l
+pub seek-order : (s l : List ℕ) → Ordered (at_most Text s) l → Ordered (key_at_most (numbered 12) s) l
 unfolding at_most sort_key numbered key_at value_at
 seek-order s l o = o
 
@@ -93,12 +93,12 @@ module _ (s index : List ℕ) (from to at : ℕ) (es : List (Entry enums)) where
   unfolding answer_among
   undefined e = says-no 27 _ e
 
-  module _ {key : List ℕ} (ek : key ≡ text_at s at) {f : Found} (found : Finds (numbered 12) s index from to key f) where
-    pub not_found : f ≡ Nothing → 28 ≡ answer_among s es paths definition
+  module _ {key : List ℕ} (ek : key ≡ text_at s at) {f : Option ℕ} (found : Finds (numbered 12) s index from to key f) where
+    pub not_found : f ≡ None → 28 ≡ answer_among s es paths definition
     unfolding numbered key_at value_at input_path
     not_found e = undefined (none-defined s definition paths (rw (← ek) (found.nothing e)))
 
-    module _ (so : Sought s index from to) (w : ℕ) (e : f ≡ At w) {p : ℕ} (ep : p ≡ get_or index w 0) {t : ℕ} (et : t ≡ past text s at)
+    module _ (so : Sought s index from to) (w : ℕ) (e : f ≡ Some w) {p : ℕ} (ep : p ≡ get_or index w 0) {t : ℕ} (et : t ≡ past text s at)
         {u : ℕ} (eu : u ≡ past (number 4) s (past text s p)) {r : Bool} (er : r ≡ same_type (value_at value_type s t) (value_at value_type s u)) where
       decided : defined_among s paths definition ≡ r
       unfolding numbered key_at value_at input_path input_type input_rest

@@ -14,8 +14,8 @@ use Rattle.format.specs.Keys.{connector_key}
 use Rattle.format.specs.Manifest.{connectors, external_inputs, numbered}
 use Rattle.format.specs.Places.{past, key_at}
 use Rattle.questions.specs.Sets.{keep}
-use Rattle.state_index.specs.declared.Found.{Found}
-use Rattle.state_index.specs.declared.Found.TheVariants.{At, Nothing}
+use Rattle.std.specs.Prelude.{Option, Some, None}
+use Rattle.state_index.specs.declared.SortKey.TheVariants.{Text}
 use Rattle.state_index.specs.Keys.{at_most}
 use Rattle.state_index.specs.Sort.{SortedIn, Kept}
 use Rattle.state_index.proofs.Lists.{slice-run, filled}
@@ -25,10 +25,10 @@ use Rattle.state_layout.proofs.Marked.{marks-other, is-set, cleared-kept}
 use Rattle.state_io.specs.Gathers.{chosen, Meets, Puts, Gathers}
 
 -- ---- one key, that names a connector or none
-pub meets : {s old new : List ℕ} {from to m : ℕ} {key : List ℕ} (f : Found) → Marks (numbered 4) s from to m key f old new → Meets s from to m key old new
+pub meets : {s old new : List ℕ} {from to m : ℕ} {key : List ℕ} (f : Option ℕ) → Marks (numbered 4) s from to m key f old new → Meets s from to m key old new
 unfolding numbered
-meets (At w) h = record { kept = h.kept; next = h.next w refl }
-meets {s} {old} {new} {from} {to} {m} {key} Nothing h = record {
+meets (Some w) h = record { kept = h.kept; next = h.next w refl }
+meets {s} {old} {new} {from} {to} {m} {key} None h = record {
   kept = h.kept;
   next = λ seen k. rw (h.same refl) (record { keyed = k.keyed; set = k.set ∙ marks-other seen (keys_at connectors s old from to) key (h.nothing refl) });
 }
@@ -194,7 +194,7 @@ module _ {s first : List ℕ} {from to marks : ℕ} where
 pub gathered : {s i0 i1 i2 i3 i4 : List ℕ} {from to low high marks r : ℕ} → Keyed connectors s i0 from to marks → high ≤ marks
     → marks + (to - from) + (to - from) + (to - from) ≤ length i0 → i1 ≡ filled 0 marks (marks + (to - from)) i0
     → Marked connectors s i2 from to marks (keys_at external_inputs s i1 low high) → Kept marks (marks + (to - from)) i1 i2 → Puts s from to marks r i2 i3
-    → SortedIn (at_most 0 s) (marks + (to - from)) r i3 i4 → length i4 ≡ length i3 → Gathers s from to low high marks r i0 i4
+    → SortedIn (at_most Text s) (marks + (to - from)) r i3 i4 → length i4 ≡ length i3 → Gathers s from to low high marks r i0 i4
 gathered {s} {i0} {i1} {i2} {i3} {i4} {from} {to} {low} {high} {marks} {r} k below fits e m k2 p o l =
     let n = to - from in
     let w = marks + (to - from) in

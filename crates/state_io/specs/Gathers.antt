@@ -6,6 +6,7 @@ use Rattle.format.specs.Keys.{connector_key}
 use Rattle.format.specs.Manifest.{connectors, external_inputs}
 use Rattle.format.specs.Places.{past, key_at}
 use Rattle.questions.specs.Sets.{keep}
+use Rattle.state_index.specs.declared.SortKey.TheVariants.{Text}
 use Rattle.state_index.specs.Keys.{at_most}
 use Rattle.state_index.specs.Sort.{Sorts, Kept}
 use Rattle.state_layout.specs.Marks.{is_set, keys_at, Marked}
@@ -30,7 +31,7 @@ pub record Puts (s : List ℕ) (from to marks r : ℕ) (old new : List ℕ) : Ty
 -- where the paths stand of the connectors from..to that the external inputs at low..high name was put behind the marks, in order, r words
 pub record Gathers (s : List ℕ) (from to low high marks r : ℕ) (old new : List ℕ) : Type 0 where
   pub few : r ≤ to - from
-  pub sorts : Sorts (at_most 0 s)
+  pub sorts : Sorts (at_most Text s)
       (map (past connector_key s) (keep (λ p. is_in (key_at connectors s p) (keys_at external_inputs s old low high)) (span old from to)))
       (span new (marks + (to - from)) (marks + (to - from) + r))
   pub kept : Kept marks (marks + (to - from) + (to - from) + (to - from)) old new

@@ -9,6 +9,7 @@ use Rattle.format.specs.Places.{past}
 use Rattle.format.specs.Values.{value_at}
 use Rattle.questions.specs.Sets.{all, any, count_different, ◌unless◌, first}
 use Rattle.questions.specs.Inputs.{same_type, bound_answer}
+use Rattle.state_index.specs.declared.SortKey.TheVariants.{Text}
 use Rattle.state_index.specs.Keys.{text_at, at_most}
 use Rattle.state_index.specs.Sort.{Ordered}
 
@@ -65,12 +66,12 @@ module _ (s : List ℕ) where
 -- the words from..to have paths that stand in order, and those at low..high definitions
 pub record Sorted (s index : List ℕ) (from to low high : ℕ) : Type 0 where
   pub fits : to ≤ length index
-  pub ordered : Ordered (at_most 0 s) (span index from to)
+  pub ordered : Ordered (at_most Text s) (span index from to)
   pub forward : low ≤ high
   pub ends : high ≤ length index
 
 -- the words from..to have paths that stand in order, and of each path one type
 pub record Sought (s index : List ℕ) (from to : ℕ) : Type 0 where
   pub fits : to ≤ length index
-  pub ordered : Ordered (at_most 0 s) (span index from to)
+  pub ordered : Ordered (at_most Text s) (span index from to)
   pub agrees : all_agree s (span index from to) ≡ true

@@ -13,7 +13,7 @@ ghost use Rattle.state_io.specs.Paths.{definition_at, answer_among, Sought};
 use super::paths::type_at;
 use state::{Section, WireValueType};
 use state_index::keys::byte_at;
-use state_index::{Found, ahead, find, text_end, text_part, word_at};
+use state_index::{Table, ahead, text_end, text_part, word_at};
 use state_layout::ends::{bound_end, type_end};
 use state_layout::{same_type, validate_value_enum};
 
@@ -32,7 +32,8 @@ fn value_answer(s: &[u8], index: &[u32], classes: usize, end: usize, t: usize, a
     if !same_type(s, at, s, t) {
         return 29;
     }
-    if !validate_value_enum(s, index, classes, end, s, at) {
+    let table = Table { from: classes, to: end };
+    if !validate_value_enum(s, index, table, s, at) {
         return 30;
     }
     0
@@ -84,16 +85,9 @@ fn definition_answer(
     requires sought { Sought s.now index.now from to }
     ensures { result ≡ answer_among s.now (classes_at s.now index.now classes end) (span index.now from to) (definition_at s.now at) }
 {
-    let f = find(
-        s,
-        Section::INPUT_DEFINITIONS,
-        index,
-        from,
-        to,
-        text_part(s, at),
-        hint,
-    );
-    let Found::At(w) = f else {
+    let paths = Table { from, to };
+    let f = paths.find(s, Section::INPUT_DEFINITIONS, index, text_part(s, at), hint);
+    let Some(w) = f else {
         return 28;
     };
     let t = text_end(s, at);

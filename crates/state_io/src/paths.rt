@@ -11,7 +11,7 @@ ghost use Rattle.state_io.specs.Gathers.{Meets, Puts, Gathers};
 
 use state::Section;
 use state_index::keys::connector_key_end;
-use state_index::{Found, SortKey, ahead, clear, key_part, sort, text_end, text_part, word_at};
+use state_index::{SortKey, Table, ahead, clear, key_part, sort, text_end, text_part, word_at};
 use state_key_order::same_bytes;
 use state_layout::marks::mark;
 use state_layout::same_type;
@@ -29,8 +29,8 @@ fn mark_key(
     requires { Keyed connectors s.now index.old from to marks }
     ensures { Meets s.now from to marks key.now index.old index.new }
 {
-    let f = mark(s, Section::CONNECTORS, index, from, to, marks, key, hint);
-    let Found::At(w) = f else {
+    let f = mark(s, Section::CONNECTORS, index, Table { from, to }, marks, key, hint);
+    let Some(w) = f else {
         return hint;
     };
     if from < w { w - 1 } else { w }
@@ -101,7 +101,7 @@ pub(crate) fn gather(
     clear(index, marks, room);
     mark_inputs(s, index, from, to, marks, low, high);
     let count = put_paths(s, index, from, to, marks);
-    sort(s, SortKey::TEXT, index, room, count);
+    sort(s, SortKey::Text, index, room, count);
     count
 }
 

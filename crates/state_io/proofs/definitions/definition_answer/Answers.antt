@@ -12,15 +12,15 @@ returns-in_default c = not_found _ _ _ _ _ _ c.text_part.ensures c.find-f.ensure
 
 pub word_at-requires : goal.word_at-requires
 word_at-requires c =
-    omega (arith, c.find-f.ensures.at _ c.in-At.is, c.requires.sought.fits)
+    omega (arith, c.find-f.ensures.at _ c.in-Some.is, c.requires.sought.fits)
 
 pub returns-then-not-same_type : goal.returns-then-not-same_type
 returns-then-not-same_type c =
-    other-type _ _ _ _ _ _ c.text_part.ensures c.find-f.ensures c.requires.sought _ c.in-At.is c.word_at.ensures c.text_end-t.ensures
+    other-type _ _ _ _ _ _ c.text_part.ensures c.find-f.ensures c.requires.sought _ c.in-Some.is c.word_at.ensures c.text_end-t.ensures
     c.type_at.ensures c.same_type.ensures c.if-not-same_type.true
 
 pub returns : goal.returns
 returns c =
-    same-type-then _ _ _ _ _ _ c.text_part.ensures c.find-f.ensures c.requires.sought _ c.in-At.is c.word_at.ensures
+    same-type-then _ _ _ _ _ _ c.text_part.ensures c.find-f.ensures c.requires.sought _ c.in-Some.is c.word_at.ensures
     c.text_end-t.ensures c.type_at.ensures c.same_type.ensures c.if-not-same_type.false c.type_end-minimum.ensures
     c.bound_end.ensures c.bounds_answer.ensures
