@@ -1,13 +1,13 @@
 -- The answers by positions are those of the manifest's values, whatever the order of the paths.
-use Prim.Native.Nat.{ℕ, ◌-◌}
+use Prim.Native.Nat.{ℕ}
 use mathlib.Core.Path.{◌≡◌, refl, sym, ◌∙◌}
 use mathlib.Core.Bool.{Bool, true, false, not, cond, ◌&&◌, ◌||◌}
 use mathlib.Core.List.{List, [], ◌∷◌, map, map-map, Permᴰ}
 use lib.ListN.{length, length-map}
 use lib.Dec.{eqb}
 use borrow.Author.Tests.{eq-eqb, ne_eqb}
-use Rattle.state.specs.Bytes.{AreBytes, span}
-use Rattle.state.proofs.Bytes.{span-length}
+use Rattle.std.specs.Prelude.{Option, Some, None}
+use Rattle.state.specs.Bytes.{AreBytes}
 use Rattle.format.specs.Lists.{same, is_in}
 use Rattle.format.specs.Format.{encode}
 use Rattle.format.specs.Admits.{All}
@@ -21,48 +21,50 @@ use Rattle.questions.specs.Sets.{keep, count_different, first}
 use Rattle.questions.proofs.Chains.{says-yes, says-no, first_one}
 use Rattle.questions.specs.Inputs.{externals, same_type, one_type, count_is, is_defined, definition_answer, input_answers}
 use Rattle.questions.specs.References.{external_names}
-use Rattle.state_index.specs.Keys.{text_at}
+use Rattle.state_index.specs.declared.SortKey.TheVariants.{Text}
+use Rattle.state_index.specs.Keys.{text_at, at_most}
+use Rattle.state_index.specs.Sort.{Ordered}
 use Rattle.state_index.proofs.Sorting.{perm-map}
 use Rattle.state_layout.specs.Tables.{Table}
 use Rattle.state_layout.proofs.Classed.{any-map}
 use Rattle.state_layout.proofs.Names.{keys-are}
 use Rattle.state_layout.proofs.Tables.{limit}
-use Rattle.state_io.specs.Paths.{type_at, definition_at, agree, all_agree, neighbours_agree, count_runs, defined_among, answer_among, answers_among, Sorted, Sought}
+use Rattle.state_io.specs.Paths.{type_at, definition_at, agree, all_agree, neighbours_agree, count_agreeing, defined_among, answer_among, answers_among}
 use Rattle.state_io.proofs.Bools.{pairs-map, any-perm}
 use Rattle.state_io.proofs.Neighbours.{neighbours-agree, agree-perm, runs-different, count-perm}
 
 -- ---- what neighbours of sorted paths answer
-module _ {s index : List ℕ} {from to low high : ℕ} (o : Sorted s index from to low high) {r : Bool} (er : r ≡ neighbours_agree s (span index from to)) where
-  abbrev paths : List ℕ
-  paths = span index from to
+counts : (b : Bool) {c n : ℕ} → cond b (Some c) None ≡ Some n → (b ≡ true) × (c ≡ n)
+counts true e = (refl, cc)
+counts false e = cc
 
-  agreed : all_agree s paths ≡ r
-  agreed = sym (er ∙ neighbours-agree s paths o.ordered)
+counts-not : (b : Bool) (c : ℕ) → cond b (Some c) None ≡ None → b ≡ false
+counts-not true c e = cc
+counts-not false c e = refl
 
-  pub sought : r ≡ true → Sought s index from to
-  sought y = record { fits = o.fits; ordered = o.ordered; agrees = agreed ∙ y }
+module _ (s : List ℕ) (ps : List ℕ) (o : Ordered (at_most Text s) ps) where
+  pub all-agree : {n : ℕ} → count_agreeing s ps ≡ Some n → all_agree s ps ≡ true
+  all-agree e = sym (neighbours-agree s ps o) ∙ (counts (neighbours_agree s ps) e).0
 
-  module _ (es : List (Entry enums)) where
+  module _ (es : List (Entry enums)) (ds : List ℕ) where
     abbrev answers : List ℕ
-    answers = answers_among s es paths (span index low high)
+    answers = answers_among s es ps ds
 
-    pub types-differ : r ≡ false → 27 ≡ first answers
+    pub types-differ : count_agreeing s ps ≡ None → 27 ≡ first answers
     unfolding answers_among
-    types-differ n = says-no 26 _ (agreed ∙ n)
+    types-differ e = says-no 26 _ (sym (neighbours-agree s ps o) ∙ counts-not (neighbours_agree s ps) _ e)
 
-    module _ (y : r ≡ true) {n : ℕ} (en : n ≡ count_runs s paths) where
-      counted : {b : Bool} → eqb (high - low) n ≡ b → eqb (length (span index low high)) (count_different (map (text_at s) paths)) ≡ b
-      counted e = rw (span-length index low high o.forward o.ends, ← runs-different s paths o.ordered, ← en) e
+    module _ {n : ℕ} (e : count_agreeing s ps ≡ Some n) where
+      counted : {b : Bool} → eqb (length ds) n ≡ b → eqb (length ds) (count_different (map (text_at s) ps)) ≡ b
+      counted i = rw (← runs-different s ps o, (counts (neighbours_agree s ps) e).1) i
 
-      pub count-differs : (n ≡ high - low → ⊥) → 28 ≡ first answers
+      pub count-differs : (n ≡ length ds → ⊥) → 28 ≡ first answers
       unfolding answers_among
-      count-differs d = says-no 27 _ (counted (ne_eqb (high - low) n (λ z. d (sym z)))) ∙ sym (says-yes 27 _ (agreed ∙ y))
+      count-differs d = says-no 27 _ (counted (ne_eqb (length ds) n (λ z. d (sym z)))) ∙ sym (says-yes 27 _ (all-agree e))
 
-      pub definitions-answer : n ≡ high - low → {z : ℕ}
-          → z ≡ first (map (λ p. answer_among s es paths (definition_at s p)) (span index low high)) → z ≡ first answers
+      pub definitions-answer : n ≡ length ds → first (map (λ p. answer_among s es ps (definition_at s p)) ds) ≡ first answers
       unfolding answers_among
-      definitions-answer d ez =
-          ez ∙ sym (first_one _) ∙ sym (says-yes 28 _ (counted (eq-eqb (high - low) n (sym d)))) ∙ sym (says-yes 27 _ (agreed ∙ y))
+      definitions-answer d = sym (first_one _) ∙ sym (says-yes 28 _ (counted (eq-eqb (length ds) n (sym d)))) ∙ sym (says-yes 27 _ (all-agree e))
 
 -- ---- in another order
 map_same : {A B : Type 0} (f g : A → B) → ((x : A) → f x ≡ g x) → (l : List A) → map f l ≡ map g l

@@ -1,19 +1,20 @@
 -- Questions 29 and 30 of a value and of a bound that may be left out, by their bytes.
-use Prim.Native.Nat.{ℕ, zero, suc, ◌+◌, min}
+use Prim.Native.Nat.{ℕ, zero, suc, ◌+◌, ◌≤◌, min}
 use native.Mathlib.Omega.{arith}
-use mathlib.Core.Path.{◌≡◌, refl, sym, ap, ◌∙◌}
-use mathlib.Core.Bool.{Bool, true, false}
-use mathlib.Core.List.{List, [], ◌∷◌, ◌++◌, map, map-append}
+use mathlib.Core.Path.{◌≡◌, refl, sym, ◌∙◌}
+use mathlib.Core.Bool.{Bool, true, false, not, ◌&&◌, ◌||◌}
+use mathlib.Core.List.{List, [], ◌∷◌, map}
 use lib.ListN.{length, get_or}
-use borrow.Author.Tests.{eq-eqb, ne_eqb}
+use lib.Dec.{eqb}
+use borrow.Author.Tests.{ne_eqb}
 use Rattle.format.specs.Format.{El, done}
 use Rattle.format.specs.Manifest.{value_type, value, optional, enums}
 use Rattle.format.specs.Fields.{Entry, value_tag, given}
 use Rattle.format.specs.Values.{value_at}
 use Rattle.questions.specs.Sets.{first, ◌unless◌}
 use Rattle.questions.specs.Declarations.{enum_holds}
-use Rattle.questions.proofs.Chains.{says-yes, says-no, first_one, group-no, group-yes}
-use Rattle.questions.specs.Inputs.{same_type, bound_holds, bound_answer}
+use Rattle.questions.proofs.Chains.{says-yes, says-no, first_one}
+use Rattle.questions.specs.Inputs.{same_type, has_type, bound_holds, bound_answer}
 use Rattle.state_layout.proofs.Choosing.{has-type}
 
 module _ (s : List ℕ) (at : ℕ) where
@@ -29,13 +30,17 @@ module _ (s : List ℕ) (at : ℕ) where
     unfolding bound_answer
     refused e = says-no 28 _ e
 
-    pub bound-boolean : k ≡ 2 → 29 ≡ answer
+    -- a Boolean or a String
+    pub bound-unordered : 2 ≤ k → k ≤ 3 → 29 ≡ answer
     unfolding bound_holds
-    bound-boolean e = refused (rw (tag_of, ← ek, eq-eqb k 2 e))
-
-    pub bound-string : k ≡ 3 → 29 ≡ answer
-    unfolding bound_holds
-    bound-string e = let n : k ≡ 2 → ⊥ = λ z. omega arith in refused (rw (tag_of, ← ek, ne_eqb k 2 n, eq-eqb k 3 e))
+    bound-unordered a b = refused (rw (tag_of, ← ek) (go k a b))
+      where
+        go : (n : ℕ) → 2 ≤ n → n ≤ 3 → (not (eqb n 2 || eqb n 3) && has_type (value_at value s at) t) ≡ false
+        go zero a b = absurd (omega arith)
+        go (suc zero) a b = absurd (omega arith)
+        go (suc (suc zero)) a b = refl
+        go (suc (suc (suc zero))) a b = refl
+        go (suc (suc (suc (suc n)))) a b = absurd (omega arith)
 
     module _ (n : k ≡ 2 → ⊥) (m : k ≡ 3 → ⊥) {r : Bool} (er : r ≡ same_type (value_at value_type s at) t) where
       typed-bound : bound_holds t (value_at value s at) ≡ r
@@ -73,18 +78,6 @@ module _ (s : List ℕ) (at : ℕ) (f : El value → ℕ) {k : ℕ} (ek : k ≡ 
   unfolding value_at first
   bound-none n = rw (← ek, left_out s k (min (at + 1) (length s)) n)
 
-  pub bound-given : k ≡ 1 → {p : ℕ} → p ≡ min (at + 1) (length s) → {r : ℕ} → r ≡ f (value_at value s p) → r ≡ option
+  pub bound-given : k ≡ 1 → {p : ℕ} → p ≡ min (at + 1) (length s) → f (value_at value s p) ≡ option
   unfolding value_at given
-  bound-given e i j = rw (← ek, e, ← i, ← j) (sym (first_one _))
-
--- ---- the one at a, then the one at b
-module _ (s : List ℕ) (a b : ℕ) (f : El value → ℕ) where
-  abbrev bound_at : ℕ → List (El value)
-  bound_at at = given value (value_at (optional value) s at)
-
-  module _ {r : ℕ} (e : r ≡ first (map f (bound_at a))) where
-    pub bounds-first : (r ≡ 0 → ⊥) → r ≡ first (map f (bound_at a ++ bound_at b))
-    bounds-first n = group-no (map f (bound_at a)) (map f (bound_at b)) e n ∙ ap first (sym (map-append f (bound_at a) (bound_at b)))
-
-    pub bounds-second : r ≡ 0 → {z : ℕ} → z ≡ first (map f (bound_at b)) → z ≡ first (map f (bound_at a ++ bound_at b))
-    bounds-second n i = i ∙ sym (group-yes (map f (bound_at a)) (map f (bound_at b)) e n) ∙ ap first (sym (map-append f (bound_at a) (bound_at b)))
+  bound-given e i = rw (← ek, e, ← i) (sym (first_one _))

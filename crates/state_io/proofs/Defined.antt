@@ -1,11 +1,10 @@
 -- Questions 28 to 30 of a definition: the path that was found decides, and then the bounds.
 use Prim.Native.Nat.{ℕ, ◌-◌, ◌<◌}
 use native.Mathlib.Omega.{arith}
-use mathlib.Core.Path.{◌≡◌, refl, sym, ◌∙◌}
+use mathlib.Core.Path.{◌≡◌, refl, sym, ap, ◌∙◌}
 use mathlib.Core.Bool.{Bool, true, false, ◌&&◌, ◌||◌}
-use mathlib.Core.List.{List, [], ◌∷◌, ◌++◌, map}
+use mathlib.Core.List.{List, [], ◌∷◌, ◌++◌, map, map-append}
 use lib.ListN.{length, get_or}
-use Rattle.state.specs.Bytes.{span}
 use Rattle.state.proofs.Bytes.{span-length}
 use Rattle.format.specs.Lists.{same, is_in}
 use Rattle.format.specs.Format.{number, text}
@@ -17,16 +16,20 @@ use Rattle.format.proofs.Lists.{same_refl, same-sym}
 use Rattle.questions.specs.Sets.{all, any, first}
 use Rattle.questions.proofs.Chains.{says-yes, says-no}
 use Rattle.questions.specs.Inputs.{same_type, bound_answer}
+use Rattle.state_index.specs.declared.SortKey.TheVariants.{Text}
 use Rattle.state_index.specs.Keys.{text_at, at_most, sort_key}
 use Rattle.state_index.specs.Sort.{Ordered}
 use Rattle.state_index.specs.Find.{key_at_most, Finds}
-use Rattle.state_index.specs.declared.Found.{Found}
-use Rattle.state_index.specs.declared.Found.TheVariants.{At, Nothing}
+use Rattle.std.specs.Prelude.{Option, Some, None, Result, Ok, Err}
+use Rattle.state.specs.declared.Question.{Question}
+use Rattle.state.specs.Outcome.{said}
+use Rattle.state_index.specs.declared.Table.{Table}
 use Rattle.state_index.proofs.Search.{span-get}
 use Rattle.state_index.proofs.Order.{apart, is_false}
 use Rattle.state_layout.specs.Classes.{classes_at}
-use Rattle.state_io.specs.Paths.{type_at, definition_at, agree, all_agree, defined_among, answer_among, Sought}
+use Rattle.state_io.specs.Paths.{words, type_at, definition_at, agree, all_agree, defined_among, answer_among, Sought}
 use Rattle.state_io.proofs.Bools.{all-at, any_at}
+use Rattle.state_io.proofs.Said.{said-group-no, said-group-yes}
 use Rattle.state_io.proofs.Types.{type-sym, type-trans}
 
 -- none where each that a test passes is refused
@@ -78,46 +81,58 @@ module _ (s : List ℕ) (d : Entry input_definitions) where
       go false i = none_of (agree s (get_or qs j 0)) defines (other (get_or qs j 0) is i) qs (all-at (λ p. all (agree s p) qs) qs a j h)
 
 -- ---- a definition by its bytes
-pub seek-order : (s l : List ℕ) → Ordered (at_most 0 s) l → Ordered (key_at_most (numbered 12) s) l
+pub seek-order : (s l : List ℕ) → Ordered (at_most Text s) l → Ordered (key_at_most (numbered 12) s) l
 unfolding at_most sort_key numbered key_at value_at
 seek-order s l o = o
 
-module _ (s index : List ℕ) (from to at : ℕ) (es : List (Entry enums)) where
-  abbrev paths : List ℕ
-  paths = span index from to
-
+module _ (s index : List ℕ) (paths : Table) (at : ℕ) (es : List (Entry enums)) where
   abbrev definition : Entry input_definitions
   definition = definition_at s at
 
-  undefined : defined_among s paths definition ≡ false → 28 ≡ answer_among s es paths definition
+  abbrev answer : ℕ
+  answer = answer_among s es (words index paths) definition
+
+  undefined : defined_among s (words index paths) definition ≡ false → 28 ≡ answer
   unfolding answer_among
   undefined e = says-no 27 _ e
 
-  module _ {key : List ℕ} (ek : key ≡ text_at s at) {f : Found} (found : Finds (numbered 12) s index from to key f) where
-    pub not_found : f ≡ Nothing → 28 ≡ answer_among s es paths definition
+  module _ {key : List ℕ} (ek : key ≡ text_at s at) {f : Option ℕ} (found : Finds (numbered 12) s index paths.from paths.to key f) where
+    pub not_found : f ≡ None → 28 ≡ answer
     unfolding numbered key_at value_at input_path
-    not_found e = undefined (none-defined s definition paths (rw (← ek) (found.nothing e)))
+    not_found e = undefined (none-defined s definition (words index paths) (rw (← ek) (found.nothing e)))
 
-    module _ (so : Sought s index from to) (w : ℕ) (e : f ≡ At w) {p : ℕ} (ep : p ≡ get_or index w 0) {t : ℕ} (et : t ≡ past text s at)
+    module _ (so : Sought s index paths) (w : ℕ) (e : f ≡ Some w) {p : ℕ} (ep : p ≡ get_or index w 0) {t : ℕ} (et : t ≡ past text s at)
         {u : ℕ} (eu : u ≡ past (number 4) s (past text s p)) {r : Bool} (er : r ≡ same_type (value_at value_type s t) (value_at value_type s u)) where
-      decided : defined_among s paths definition ≡ r
+      decided : defined_among s (words index paths) definition ≡ r
       unfolding numbered key_at value_at input_path input_type input_rest
       decided =
           let a = found.at w e in
-          let g : get_or paths (w - from) 0 ≡ p = span-get index from to w a.0 a.1 ∙ sym ep in
-          let len : length paths ≡ to - from = span-length index from to (omega arith) so.fits in
-          let k : text_at s (get_or paths (w - from) 0) ≡ text_at s at = rw (g, ep) (a.2 ∙ ek) in
-          one-decides s definition paths so.agrees (w - from) (omega arith) k ∙ rw (g, ← eu, ← et) (sym er)
+          let g : get_or (words index paths) (w - paths.from) 0 ≡ p = span-get index paths.from paths.to w a.0 a.1 ∙ sym ep in
+          let len : length (words index paths) ≡ paths.to - paths.from = span-length index paths.from paths.to so.forward so.fits in
+          let k : text_at s (get_or (words index paths) (w - paths.from) 0) ≡ text_at s at = rw (g, ep) (a.2 ∙ ek) in
+          one-decides s definition (words index paths) so.agrees (w - paths.from) (omega arith) k ∙ rw (g, ← eu, ← et) (sym er)
 
-      pub other-type : r ≡ false → 28 ≡ answer_among s es paths definition
+      pub other-type : r ≡ false → 28 ≡ answer
       other-type n = undefined (decided ∙ n)
 
-      pub same-type-then : r ≡ true → {a b : ℕ} → a ≡ past value_type s t → b ≡ past (optional value) s a
-          → {z : ℕ} → z ≡ first (map (bound_answer es (value_at value_type s t)) (given value (value_at (optional value) s a) ++ given value (value_at (optional value) s b)))
-          → z ≡ answer_among s es paths definition
-      unfolding answer_among input_type minimum maximum input_rest value_at past
-      same-type-then y ea eb ez = ez ∙ rw (eb, ea, et) (sym (says-yes 28 _ (decided ∙ y)))
+      -- behind its type the minimum decides, and then the maximum
+      module _ (y : r ≡ true) {a b : ℕ} (ea : a ≡ past value_type s t) (eb : b ≡ past (optional value) s a) where
+        abbrev bounds : ℕ → List ℕ
+        bounds at = map (bound_answer es (value_at value_type s t)) (given value (value_at (optional value) s at))
+
+        bounds-answer : first (bounds a ++ bounds b) ≡ answer
+        unfolding answer_among input_type minimum maximum input_rest value_at past
+        bounds-answer =
+            ap first (sym (map-append (bound_answer es (value_at value_type s t)) (given value (value_at (optional value) s a)) (given value (value_at (optional value) s b))))
+            ∙ rw (eb, ea, et) (sym (says-yes 28 _ (decided ∙ y)))
+
+        module _ {z : Result Unit Question} (ez : z ≡ said (first (bounds a))) where
+          pub minimum-refused : {q : Question} → z ≡ Err q → z ≡ said answer
+          minimum-refused i = said-group-no (bounds a) ez i (bounds b) ∙ ap said bounds-answer
+
+          pub maximum-answers : {v : Unit} → z ≡ Ok v → first (bounds b) ≡ answer
+          maximum-answers i = said-group-yes (bounds a) ez i (bounds b) ∙ bounds-answer
 
 -- the answer of the definition at a position, by the words of an index
-abbrev pub answer_of : (s index : List ℕ) (classes end from to : ℕ) → ℕ → ℕ
-answer_of s index classes end from to p = answer_among s (classes_at s index classes end) (span index from to) (definition_at s p)
+abbrev pub answer_of : (s index : List ℕ) (classes paths : Table) → ℕ → ℕ
+answer_of s index classes paths p = answer_among s (classes_at s index classes.from classes.to) (words index paths) (definition_at s p)

@@ -9,6 +9,7 @@ use Rattle.format.proofs.Lists.{same_true, same_refl, same-sym}
 use Rattle.questions.specs.Sets.{all, count_different}
 use Rattle.questions.proofs.Sets.{all_both}
 use Rattle.questions.specs.Inputs.{same_type}
+use Rattle.state_index.specs.declared.SortKey.TheVariants.{Text}
 use Rattle.state_index.specs.Keys.{text_at, at_most, sort_key}
 use Rattle.state_index.specs.Sort.{Below, Ordered}
 use Rattle.state_index.proofs.Order.{leq, leq-antisym}
@@ -40,7 +41,7 @@ module _ (s : List ℕ) where
   abbrev in_order : ℕ → ℕ → Bool
   in_order a b = leq (text_at s a) (text_at s b)
 
-  in_order-texts : (ps : List ℕ) → Ordered (at_most 0 s) ps → Ordered in_order ps
+  in_order-texts : (ps : List ℕ) → Ordered (at_most Text s) ps → Ordered in_order ps
   unfolding at_most sort_key
   in_order-texts ps o = o
 
@@ -96,7 +97,7 @@ module _ (s : List ℕ) where
   neighbours-after (p ∷ ps) o = rw (neighbours-after ps o.1) (next-all p ps o)
 
   -- "27. One type for each external path?"
-  pub neighbours-agree : (ps : List ℕ) → Ordered (at_most 0 s) ps → neighbours_agree s ps ≡ all_agree s ps
+  pub neighbours-agree : (ps : List ℕ) → Ordered (at_most Text s) ps → neighbours_agree s ps ≡ all_agree s ps
   unfolding all_agree
   neighbours-agree ps o = neighbours-after ps (in_order-texts ps o) ∙ sym (pairs-after (agree s) agree-own agree-turned ps)
 
@@ -132,7 +133,7 @@ module _ (s : List ℕ) where
   runs-ordered [] o = refl
   runs-ordered (p ∷ ps) o = rw (next-differs p ps o, runs-ordered ps o.1)
 
-  pub runs-different : (ps : List ℕ) → Ordered (at_most 0 s) ps → count_runs s ps ≡ count_different (map (text_at s) ps)
+  pub runs-different : (ps : List ℕ) → Ordered (at_most Text s) ps → count_runs s ps ≡ count_different (map (text_at s) ps)
   runs-different ps o = runs-ordered ps (in_order-texts ps o)
 
 count-swap : (a b : List ℕ) (ks : List (List ℕ)) → count_different (a ∷ (b ∷ ks)) ≡ count_different (b ∷ (a ∷ ks))

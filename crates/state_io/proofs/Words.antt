@@ -1,10 +1,12 @@
 -- What neighbours say, word by word of an index.
-use Prim.Native.Nat.{ℕ, ◌+◌, ◌≤◌, ◌<◌, min}
+use Prim.Native.Nat.{ℕ, ◌+◌, ◌-◌, ◌≤◌, ◌<◌, min}
 use native.Mathlib.Omega.{arith}
-use mathlib.Core.Path.{◌≡◌, sym, ◌∙◌}
+use mathlib.Core.Path.{◌≡◌, refl, sym, ap, ◌∙◌}
 use mathlib.Core.Bool.{Bool, true, false, cond, ◌&&◌}
 use mathlib.Core.List.{List, [], ◌∷◌}
 use lib.ListN.{length, get_or}
+use Rattle.std.specs.Prelude.{Option, Some, None}
+use Rattle.std.specs.Bool.{then_some}
 use Rattle.state.specs.Bytes.{span}
 use Rattle.state.proofs.Bytes.{span-cons, span_none}
 use Rattle.format.specs.Lists.{same}
@@ -14,78 +16,97 @@ use Rattle.format.specs.Places.{past}
 use Rattle.format.specs.Values.{value_at}
 use Rattle.questions.specs.Inputs.{same_type}
 use Rattle.state_index.specs.Keys.{text_at}
-use Rattle.state_io.specs.Paths.{agree, agree_next, neighbours_agree, differ_next, count_runs}
+use Rattle.state_index.specs.declared.Table.{Table}
+use Rattle.state_io.specs.Paths.{words, agree, agree_next, neighbours_agree, differ_next, count_runs, more_paths, count_agreeing}
 
 pub number_past : (s : List ℕ) (w : ℕ) {p q r : ℕ} → p ≡ q → r ≡ min (p + w) (length s) → r ≡ past (number w) s q
 unfolding past
 number_past s w e i = i ∙ rw e
 
-module _ (s index : List ℕ) (i to : ℕ) where
-  abbrev here : ℕ
-  here = get_or index i 0
+some-zero : (z : Bool) → then_some {T = ℕ} z 0 ≡ cond z (Some 0) None
+some-zero true = refl
+some-zero false = refl
 
-  abbrev behind : List ℕ
-  behind = span index (i + 1) to
+module _ (s : List ℕ) where
+  -- ---- two neighbours
+  module _ (a b : ℕ) {x y : List ℕ} (ex : x ≡ text_at s a) (ey : y ≡ text_at s b) {r : Bool} (er : r ≡ same x y) where
+    pub more-apart : r ≡ false → Some 1 ≡ more_paths s a b
+    unfolding agree differ_next
+    more-apart e = rw (← ex, ← ey, ← er, e)
 
-  -- ---- the last
-  pub agree-last : to ≤ i + 1 → true ≡ agree_next s here behind
-  unfolding agree_next
-  agree-last h = rw (← span_none index (i + 1) to h)
+    pub more-alike : r ≡ true → {t u : ℕ} → t ≡ past (number 4) s (past text s a) → u ≡ past (number 4) s (past text s b)
+        → {z : Bool} → z ≡ same_type (value_at value_type s t) (value_at value_type s u) → then_some z 0 ≡ more_paths s a b
+    unfolding agree differ_next
+    more-alike e et eu {z} ez = rw (← ex, ← ey, ← er, e, ← et, ← eu, ← ez) (some-zero z)
 
-  pub differ-last : to ≤ i + 1 → 1 ≡ differ_next s here behind
+  -- ---- those from p on, where n were counted in front of them
+  abbrev left : (n p : ℕ) → List ℕ → Option ℕ
+  left n p ps = cond (neighbours_agree s (p ∷ ps)) (Some (n + count_runs s (p ∷ ps))) None
+
+  counted : (b : Bool) (d : ℕ) {m : ℕ} → cond b (Some d) None ≡ Some m → (b ≡ true) × (d ≡ m)
+  counted true d e = (refl, cc)
+  counted false d e = cc
+
+  uncounted : (b : Bool) (d : ℕ) → cond b (Some d) None ≡ None → b ≡ false
+  uncounted true d e = cc
+  uncounted false d e = refl
+
+  left-one : (n p : ℕ) → left n p [] ≡ Some (n + 1)
+  unfolding neighbours_agree count_runs agree_next differ_next
+  left-one n p = refl
+
+  left-more : (n p q : ℕ) (ps : List ℕ) {m : ℕ} → more_paths s p q ≡ Some m → left n p (q ∷ ps) ≡ left (n + m) q ps
+  unfolding neighbours_agree count_runs agree_next differ_next
+  left-more n p q ps {m} e =
+      let c = counted (agree s p q) (cond (same (text_at s p) (text_at s q)) 0 1) e in
+      let a : n + (m + count_runs s (q ∷ ps)) ≡ n + m + count_runs s (q ∷ ps) = omega arith in
+      rw (c.0, c.1) (ap (λ (k : ℕ). cond (neighbours_agree s (q ∷ ps)) (Some k) None) a)
+
+  left-none : (n p q : ℕ) (ps : List ℕ) → more_paths s p q ≡ None → left n p (q ∷ ps) ≡ None
+  unfolding neighbours_agree count_runs agree_next differ_next
+  left-none n p q ps e = rw (uncounted (agree s p q) _ e)
+
+  pub more-few : (p q : ℕ) {m : ℕ} → more_paths s p q ≡ Some m → m ≤ 1
   unfolding differ_next
-  differ-last h = rw (← span_none index (i + 1) to h)
+  more-few p q e = rw (← (counted (agree s p q) (cond (same (text_at s p) (text_at s q)) 0 1) e).1) (few (same (text_at s p) (text_at s q)))
+    where
+      few : (b : Bool) → cond b 0 1 ≤ 1
+      few true = omega arith
+      few false = omega arith
 
-  -- ---- one and the next
-  module _ (fits : to ≤ length index) (l : i + 1 < to) {a b : ℕ} (ea : a ≡ get_or index i 0) (eb : b ≡ get_or index (i + 1) 0)
-      {x y : List ℕ} (ex : x ≡ text_at s a) (ey : y ≡ text_at s b) {r : Bool} (er : r ≡ same x y) where
-    pub agree-apart : r ≡ false → true ≡ agree_next s here behind
-    unfolding agree_next agree
-    agree-apart e = rw (span-cons index (i + 1) to l fits, ← ea, ← eb, ← ex, ← ey, ← er, e)
+  -- ---- word by word
+  pub record Counted (index : List ℕ) (paths : Table) (count i : ℕ) : Type 0 where
+    pub some : 1 ≤ count
+    pub few : count ≤ i
+    pub is : left (count - 1) (get_or index (i - 1) 0) (span index i paths.to) ≡ count_agreeing s (words index paths)
 
-    pub agree-types : r ≡ true → {t u : ℕ} → t ≡ past (number 4) s (past text s a) → u ≡ past (number 4) s (past text s b)
-        → {z : Bool} → z ≡ same_type (value_at value_type s t) (value_at value_type s u) → z ≡ agree_next s here behind
-    unfolding agree_next agree
-    agree-types e et eu ez = rw (span-cons index (i + 1) to l fits, ← ea, ← eb, ← ex, ← ey, ← er, e, ← et, ← eu) ez
+  module _ (index : List ℕ) (paths : Table) (fits : paths.to ≤ length index) where
+    pub counted-none : paths.to ≤ paths.from → Some 0 ≡ count_agreeing s (words index paths)
+    unfolding neighbours_agree count_runs
+    counted-none h = rw (← span_none index paths.from paths.to h)
 
-    pub differ-apart : r ≡ false → 1 ≡ differ_next s here behind
-    unfolding differ_next
-    differ-apart e = rw (span-cons index (i + 1) to l fits, ← ea, ← eb, ← ex, ← ey, ← er, e)
+    pub counted-first : paths.from < paths.to → Counted index paths 1 (paths.from + 1)
+    counted-first h =
+        let e : paths.from + 1 - 1 ≡ paths.from = omega arith in
+        let z : (k : ℕ) → 1 - 1 + k ≡ k = λ k. omega arith in
+        record { some = omega arith; few = omega arith; is = rw (e, z, span-cons index paths.from paths.to h fits) }
 
-    pub differ_same : r ≡ true → 0 ≡ differ_next s here behind
-    unfolding differ_next
-    differ_same e = rw (span-cons index (i + 1) to l fits, ← ea, ← eb, ← ex, ← ey, ← er, e)
+    module _ {count i : ℕ} (c : Counted index paths count i) where
+      module _ (low : paths.from < i) (h : i < paths.to) {p q : ℕ} (ep : p ≡ get_or index (i - 1) 0) (eq : q ≡ get_or index i 0) where
+        pub counted-more : {m : ℕ} → more_paths s p q ≡ Some m → m ≤ 1 → Counted index paths (count + m) (i + 1)
+        counted-more {m} e f =
+            let a : i + 1 - 1 ≡ i = omega arith in
+            let b : count + m - 1 ≡ count - 1 + m = omega (arith, c.some) in
+            record {
+              some = omega (arith, c.some);
+              few = omega (arith, c.few);
+              is = rw (a, b, ← eq) (sym (left-more (count - 1) p q (span index (i + 1) paths.to) e) ∙ rw (ep, eq) (rw (span-cons index i paths.to h fits) at c.is));
+            }
 
-  -- ---- one and those behind it
-  module _ (fits : to ≤ length index) (l : i < to) where
-    agree-step : {r : Bool} → r ≡ agree_next s here behind → neighbours_agree s (span index i to) ≡ (r && neighbours_agree s behind)
-    unfolding neighbours_agree
-    agree-step e = rw (span-cons index i to l fits, ← e)
+        pub counted-stop : more_paths s p q ≡ None → None ≡ count_agreeing s (words index paths)
+        counted-stop e = sym (left-none (count - 1) p q (span index (i + 1) paths.to) e) ∙ rw (ep, eq) (rw (span-cons index i paths.to h fits) at c.is)
 
-    module _ {r : Bool} (e : r ≡ agree_next s here behind) {b : Bool} (h : neighbours_agree s (span index i to) ≡ b) where
-      pub agree-no : r ≡ false → false ≡ b
-      agree-no n = rw n at (sym (agree-step e) ∙ h)
-
-      pub agree-yes : r ≡ true → neighbours_agree s behind ≡ b
-      agree-yes y = rw y at (sym (agree-step e) ∙ h)
-
-    pub runs-next : {r : ℕ} → r ≡ differ_next s here behind → (n : ℕ) {b : ℕ} → n + count_runs s (span index i to) ≡ b → n + r + count_runs s behind ≡ b
-    unfolding count_runs
-    runs-next {r} e n h = let c : count_runs s (span index i to) ≡ r + count_runs s behind = rw (span-cons index i to l fits, ← e) in omega arith
-
-  pub agree-end : to ≤ i → true ≡ neighbours_agree s (span index i to)
-  unfolding neighbours_agree
-  agree-end h = rw (← span_none index i to h)
-
-  pub runs-end : to ≤ i → (n : ℕ) {b : ℕ} → n + count_runs s (span index i to) ≡ b → n ≡ b
-  unfolding count_runs
-  runs-end h n e = let c : count_runs s (span index i to) ≡ 0 = rw (← span_none index i to h) in omega arith
-
-pub differ-few : (s : List ℕ) (p : ℕ) (qs : List ℕ) {r : ℕ} → r ≡ differ_next s p qs → r ≤ 1
-unfolding differ_next
-differ-few s p [] e = omega arith
-differ-few s p (q ∷ qs) e = rw e (go (same (text_at s p) (text_at s q)))
-  where
-    go : (b : Bool) → cond b 0 1 ≤ 1
-    go true = omega arith
-    go false = omega arith
+      pub counted-all : paths.to ≤ i → Some count ≡ count_agreeing s (words index paths)
+      counted-all h =
+          let e : count - 1 + 1 ≡ count = omega (arith, c.some) in
+          rw (← e) (sym (left-one (count - 1) (get_or index (i - 1) 0)) ∙ rw (← span_none index i paths.to h) at c.is)

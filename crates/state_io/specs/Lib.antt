@@ -1,4 +1,3 @@
 -- What the contracts of the private functions of `state_io` cite.
 pub mod Paths
 pub mod Gathers
-pub mod Placed

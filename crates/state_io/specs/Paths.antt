@@ -1,5 +1,5 @@
 -- External paths by the positions at which they stand: a path is that of a connector, and the connector's type follows it.
-use Rattle.std.specs.Prelude.{ℕ, ◌+◌, ◌≤◌, ◌≡◌, List, [], ◌∷◌, ◌++◌, map, Bool, true, not, cond, ◌&&◌, ◌||◌, length, eqb}
+use Rattle.std.specs.Prelude.{Option, Some, None, ℕ, ◌+◌, ◌≤◌, ◌≡◌, List, [], ◌∷◌, ◌++◌, map, Bool, true, not, cond, ◌&&◌, ◌||◌, length, eqb}
 use Rattle.state.specs.Bytes.{span}
 use Rattle.format.specs.Lists.{same}
 use Rattle.format.specs.Format.{El, number, text}
@@ -9,8 +9,10 @@ use Rattle.format.specs.Places.{past}
 use Rattle.format.specs.Values.{value_at}
 use Rattle.questions.specs.Sets.{all, any, count_different, ◌unless◌, first}
 use Rattle.questions.specs.Inputs.{same_type, bound_answer}
+use Rattle.state_index.specs.declared.SortKey.TheVariants.{Text}
 use Rattle.state_index.specs.Keys.{text_at, at_most}
 use Rattle.state_index.specs.Sort.{Ordered}
+use Rattle.state_index.specs.declared.Table.{Table}
 
 -- the type of the connector whose path stands at q: it follows the declaration order
 abbrev pub type_at : List ℕ → (q : ℕ) → El value_type
@@ -46,6 +48,14 @@ module _ (s : List ℕ) where
   count_runs [] = 0
   count_runs (p ∷ ps) = differ_next p ps + count_runs ps
 
+  -- of two neighbours: 1 where they are two paths, 0 where they are one; none where they are one and have two types
+  abbrev pub more_paths : (p q : ℕ) → Option ℕ
+  more_paths p q = cond (agree p q) (Some (differ_next p (q ∷ []))) None
+
+  -- how many paths there are, as neighbours tell; none where some have two types
+  abbrev pub count_agreeing : List ℕ → Option ℕ
+  count_agreeing ps = cond (neighbours_agree ps) (Some (count_runs ps)) None
+
   -- "28. .. each with a known path and its type?"
   unfoldable pub defined_among : List ℕ → Entry input_definitions → Bool
   defined_among qs d = any (λ q. same (text_at s q) (input_path d) && same_type (input_type d) (type_at s q)) qs
@@ -62,15 +72,13 @@ module _ (s : List ℕ) where
       ∷ first (map (λ p. answer_among es qs (definition_at s p)) ds)
       ∷ []
 
--- the words from..to have paths that stand in order, and those at low..high definitions
-pub record Sorted (s index : List ℕ) (from to low high : ℕ) : Type 0 where
-  pub fits : to ≤ length index
-  pub ordered : Ordered (at_most 0 s) (span index from to)
-  pub forward : low ≤ high
-  pub ends : high ≤ length index
+-- the words of the index that a table lists
+abbrev pub words : List ℕ → Table → List ℕ
+words index table = span index table.from table.to
 
--- the words from..to have paths that stand in order, and of each path one type
-pub record Sought (s index : List ℕ) (from to : ℕ) : Type 0 where
-  pub fits : to ≤ length index
-  pub ordered : Ordered (at_most 0 s) (span index from to)
-  pub agrees : all_agree s (span index from to) ≡ true
+-- the words have paths that stand in order, and of each path one type
+pub record Sought (s index : List ℕ) (paths : Table) : Type 0 where
+  pub forward : paths.from ≤ paths.to
+  pub fits : paths.to ≤ length index
+  pub ordered : Ordered (at_most Text s) (words index paths)
+  pub agrees : all_agree s (words index paths) ≡ true

@@ -1,26 +1,47 @@
-use Rattle.state.specs.Bytes.{span}
-use Rattle.state_io.proofs.Defined.{seek-order, not_found, other-type, same-type-then}
+use Rattle.state.specs.Outcome.{said}
+use Rattle.state_io.specs.Paths.{words}
+use Rattle.state_io.proofs.Said.{lacked, had}
+use Rattle.state_io.proofs.Defined.{seek-order, not_found, other-type, minimum-refused, maximum-answers}
+use Rattle.std.proofs.lemmas.Result.{err_from_is_err_and}
 use native.Mathlib.Omega.{arith}
+use mathlib.Core.Path.{sym, ap, ◌∙◌}
 use Rattle.state_io.proofs.definitions.definition_answer.Goals as goal
 
-pub find-f-requires : goal.find-f-requires
-find-f-requires c =
-    record { to_in_bounds = c.requires.sought.fits; ordered = seek-order c.args.s.now (span c.args.index.now c.args.from c.args.to) c.requires.sought.ordered }
+pub find-requires-clause-ordered : goal.find-requires-clause-ordered
+find-requires-clause-ordered c = seek-order c.args.s.now (words c.args.index.now c.args.paths) c.requires.sought.ordered
 
-pub returns-in_default : goal.returns-in_default
-returns-in_default c = not_found _ _ _ _ _ _ c.text_part.ensures c.find-f.ensures c.in_default.is
+pub returns-in_err-w : goal.returns-in_err-w
+returns-in_err-w c =
+    let p = err_from_is_err_and c.from_residual.result c.from_residual.ensures.1 in
+    let l = lacked _ _ c.ok_or.ensures.value c.in_err-w.was in
+    rw (p.1, p.2, l.1) (ap said (not_found _ _ _ _ _ c.text_part-key.ensures c.find.ensures l.0))
 
 pub word_at-requires : goal.word_at-requires
 word_at-requires c =
-    omega (arith, c.find-f.ensures.at _ c.in-At.is, c.requires.sought.fits)
+    let f = had _ _ c.ok_or.ensures.value c.in_ok-w.was in
+    omega (arith, c.find.ensures.at _ f)
 
 pub returns-then-not-same_type : goal.returns-then-not-same_type
 returns-then-not-same_type c =
-    other-type _ _ _ _ _ _ c.text_part.ensures c.find-f.ensures c.requires.sought _ c.in-At.is c.word_at.ensures c.text_end-t.ensures
-    c.type_at.ensures c.same_type.ensures c.if-not-same_type.true
+    let f = had _ _ c.ok_or.ensures.value c.in_ok-w.was in
+    ap said
+    (other-type _ _ _ _ _ c.text_part-key.ensures c.find.ensures c.requires.sought _ f c.word_at.ensures c.text_end-t.ensures
+    c.type_at.ensures c.same_type.ensures c.if-not-same_type.true)
+
+pub returns-in_err-bound_answer : goal.returns-in_err-bound_answer
+returns-in_err-bound_answer c =
+    let p = err_from_is_err_and c.from_residual-in_err-bound_answer.result c.from_residual-in_err-bound_answer.ensures.1 in
+    let f = had _ _ c.ok_or.ensures.value c.in_ok-w.was in
+    let w = c.in_err-bound_answer.was in
+    rw (p.1, p.2)
+    (sym w
+    ∙ minimum-refused _ _ _ _ _ c.text_part-key.ensures c.find.ensures c.requires.sought _ f c.word_at.ensures c.text_end-t.ensures
+    c.type_at.ensures c.same_type.ensures c.if-not-same_type.false c.type_end-minimum.ensures c.bound_end-maximum.ensures c.bound_answer.ensures w)
 
 pub returns : goal.returns
 returns c =
-    same-type-then _ _ _ _ _ _ c.text_part.ensures c.find-f.ensures c.requires.sought _ c.in-At.is c.word_at.ensures
-    c.text_end-t.ensures c.type_at.ensures c.same_type.ensures c.if-not-same_type.false c.type_end-minimum.ensures
-    c.bound_end.ensures c.bounds_answer.ensures
+    let f = had _ _ c.ok_or.ensures.value c.in_ok-w.was in
+    c.bound_answer-2.ensures
+    ∙ ap said
+    (maximum-answers _ _ _ _ _ c.text_part-key.ensures c.find.ensures c.requires.sought _ f c.word_at.ensures c.text_end-t.ensures
+    c.type_at.ensures c.same_type.ensures c.if-not-same_type.false c.type_end-minimum.ensures c.bound_end-maximum.ensures c.bound_answer.ensures c.in_ok-bound_answer.was)
