@@ -17,6 +17,7 @@ use Rattle.format.specs.Admits.{All}
 use Rattle.format.specs.Places.{number_at, past}
 use Rattle.questions.specs.Slots.{words, by_offset, join_from}
 use Rattle.questions.proofs.Kept.{all_so, all-to-map, all-perm}
+use Rattle.state_index.specs.declared.SortKey.TheVariants.{Number}
 use Rattle.state_index.specs.Keys.{at_most}
 use Rattle.state_index.specs.Sort.{Below, Ordered, SortedIn, Kept}
 use Rattle.state_index.proofs.Lists.{take-sets, stored}
@@ -106,11 +107,11 @@ module _ {s index : List ℕ} {from to i n : ℕ} (g : Chain s index from to i n
 -- ---- sorted
 -- positions in the order of their numbers are words in order
 module _ (s : List ℕ) where
-  below-words : (p : ℕ) (ps : List ℕ) → Below (at_most 1 s) p ps → All (λ w. leb (words_at s p).0 w.0 ≡ true) (map (words_at s) ps)
+  below-words : (p : ℕ) (ps : List ℕ) → Below (at_most Number s) p ps → All (λ w. leb (words_at s p).0 w.0 ≡ true) (map (words_at s) ps)
   below-words p [] h = tt
-  below-words p (q ∷ ps) h = (most-number 1 s p q refl refl refl ∙ h.0, below-words p ps h.1)
+  below-words p (q ∷ ps) h = (most-number s p q refl refl ∙ h.0, below-words p ps h.1)
 
-  ordered_words : (ps : List ℕ) → Ordered (at_most 1 s) ps → InOrder (map (words_at s) ps)
+  ordered_words : (ps : List ℕ) → Ordered (at_most Number s) ps → InOrder (map (words_at s) ps)
   ordered_words [] h = tt
   ordered_words (p ∷ ps) h = (below-words p ps h.0, ordered_words ps h.1)
 
@@ -131,7 +132,7 @@ module _ {s old : List ℕ} {from to room : ℕ} (r : Room s old from to room) (
       let e : room + (to - from) - room ≡ length offsets = omega (arith, many) in
       rw e (stored old room offsets (omega (arith, many, r.fits)))
 
-  module _ {mid new : List ℕ} (e : mid ≡ sets old room offsets) (o : SortedIn (at_most 1 s) room (to - from) mid new) where
+  module _ {mid new : List ℕ} (e : mid ≡ sets old room offsets) (o : SortedIn (at_most Number s) room (to - from) mid new) where
     perm : Permᴰ offsets (span new room (room + (to - from)))
     perm = subst (λ l. Permᴰ l (span new room (room + (to - from)))) (ap (λ l. span l room (room + (to - from))) e ∙ gathered) o.sorts.perm
 

@@ -169,7 +169,7 @@ fn slots_cover(s: &[u8], index: &mut [u32], from: usize, to: usize, room: usize)
 {
     let count = to - from;
     gather_offsets(s, index, from, to, room);
-    sort(s, SortKey::NUMBER, index, room, count);
+    sort(s, SortKey::Number, index, room, count);
     slots_join(s, index, room, room + count)
 }
 
