@@ -17,7 +17,7 @@ use Rattle.questions.specs.Slots.{slot_name, end_fits, slot_answer, words}
 use Rattle.questions.proofs.Chains.{first_one, first_rest, first-none, unless-none, each_none}
 use Rattle.questions.proofs.Kept.{all_so}
 use Rattle.questions.proofs.Named.{block_name, Alone, length-is}
-use Rattle.state_slots.specs.Walk.{pair_answer, pair_answers, Held}
+use Rattle.state_slots.specs.Walk.{pairwise, pair_answer, Held}
 
 -- ---- 12 says yes: no stateful block has length 0
 kind-holds : (es : List (Entry enums)) (b : Entry blocks) → block_answer es b ≡ 0 → kind_holds b ≡ true
@@ -41,8 +41,8 @@ blocks-some m h = all_so stateful-some (blocks_of m) (kinds-hold m h)
 
 -- ---- 22 and 23 of slots that name these blocks, each alone of its name
 pub slot-answers : (bs ks : List (Entry blocks)) (es : List (Entry state_slots)) → All (Alone block_name bs) ks → map slot_name es ≡ map block_name ks
-    → first (map (slot_answer bs) es) ≡ pair_answers ks es
-unfolding pair_answers pair_answer slot_answer first
+    → first (map (slot_answer bs) es) ≡ pairwise pair_answer ks es
+unfolding pairwise pair_answer slot_answer first
 slot-answers bs [] [] a h = refl
 slot-answers bs [] (e ∷ es) a h = let z : ◌≡◌ {A = ℕ} 0 1 = cc in absurd (omega arith)
 slot-answers bs (b ∷ ks) [] a h = let z : ◌≡◌ {A = ℕ} 0 1 = cc in absurd (omega arith)
@@ -57,10 +57,10 @@ pair-none b e h p =
     let l : slot_length e ≡ state_len b = eqb-true (slot_length e) (state_len b) (unless-none 21 _ f.0) in
     (omega arith, ltb-true _ _ (unless-none 22 (end_fits e) (sym (first_one (23 unless (end_fits e))) ∙ f.1)))
 
-pub pairs-none : (ks : List (Entry blocks)) (es : List (Entry state_slots)) → map slot_name es ≡ map block_name ks → pair_answers ks es ≡ 0 → All (λ b. 0 < state_len b) ks → All Held es
-unfolding pair_answers
+pub pairs-none : (ks : List (Entry blocks)) (es : List (Entry state_slots)) → map slot_name es ≡ map block_name ks → pairwise pair_answer ks es ≡ 0 → All (λ b. 0 < state_len b) ks → All Held es
+unfolding pairwise
 pairs-none ks [] n h p = tt
 pairs-none [] (e ∷ es) n h p = let z : ◌≡◌ {A = ℕ} 0 1 = cc in absurd (omega arith)
 pairs-none (b ∷ ks) (e ∷ es) n h p =
-    let f = first-none (pair_answer b e) (pair_answers ks es ∷ []) h in
-    (pair-none b e f.0 p.0, pairs-none ks es (cc) (sym (first_one (pair_answers ks es)) ∙ f.1) p.1)
+    let f = first-none (pair_answer b e) (pairwise pair_answer ks es ∷ []) h in
+    (pair-none b e f.0 p.0, pairs-none ks es (cc) (sym (first_one (pairwise pair_answer ks es)) ∙ f.1) p.1)

@@ -5,8 +5,8 @@ use native.Mathlib.Numerals.{add-one}
 use mathlib.Core.Path.{◌≡◌, refl, sym, ap, ◌∙◌, subst}
 use mathlib.Core.Bool.{Bool, true, false}
 use mathlib.Core.List.{List, [], ◌∷◌, map, Permᴰ}
-use lib.ListN.{length, get_or, take, drop, set, length-map, length-set}
-use lib.Seq.{sets}
+use lib.ListN.{length, get_or, take, drop, set, drop_of_length-le, length-map, length-set}
+use lib.Seq.{sets, drop-cons}
 use lib.Dec.{leb}
 use borrow.Author.Tests.{eq-eqb, ne_eqb}
 use Rattle.state.specs.Bytes.{span}
@@ -17,6 +17,7 @@ use Rattle.format.specs.Admits.{All}
 use Rattle.format.specs.Places.{number_at, past}
 use Rattle.questions.specs.Slots.{words, by_offset, join_from}
 use Rattle.questions.proofs.Kept.{all_so, all-to-map, all-perm}
+use Rattle.state_index.specs.declared.SortKey.TheVariants.{Number}
 use Rattle.state_index.specs.Keys.{at_most}
 use Rattle.state_index.specs.Sort.{Below, Ordered, SortedIn, Kept}
 use Rattle.state_index.proofs.Lists.{take-sets, stored}
@@ -38,79 +39,76 @@ key-within s p = go (get_or s p 0)
     go (suc zero) = omega arith
     go (suc (suc t)) = omega arith
 
--- ---- gathered: those of the words from..i stand from `room` up to k
-pub record Gathering (f : ℕ → ℕ) (old : List ℕ) (from to room : ℕ) (new : List ℕ) (i k : ℕ) : Type 0 where
+-- ---- gathered: those of the words from..i stand from `room` on
+pub record Gathering (f : ℕ → ℕ) (old : List ℕ) (from to room : ℕ) (new : List ℕ) (i : ℕ) : Type 0 where
   pub long : length new ≡ length old
-  pub here : i ≤ to
-  pub place : k + (to - i) ≡ room + (to - from)
-  pub behind : to ≤ k
-  pub is : sets new k (map f (span new i to)) ≡ sets old room (map f (span old from to))
+  pub is : sets new (room + (i - from)) (map f (span new i to)) ≡ sets old room (map f (span old from to))
 
-pub gather-start : (f : ℕ → ℕ) (old : List ℕ) (from to room : ℕ) → from ≤ to → to ≤ room → Gathering f old from to room old from room
-gather-start f old from to room h b = record { long = refl; here = h; place = refl; behind = b; is = refl }
+pub gather-start : (f : ℕ → ℕ) (old : List ℕ) (from to room : ℕ) → Gathering f old from to room old from
+gather-start f old from to room =
+    let e : room + (from - from) ≡ room = omega arith in
+    record { long = refl; is = ap (λ (k : ℕ). sets old k (map f (span old from to))) e }
 
-module _ {f : ℕ → ℕ} {old : List ℕ} {from to room : ℕ} {new : List ℕ} {i k : ℕ} (g : Gathering f old from to room new i k) where
-  pub gather-on : i < to → to ≤ length new → (x : ℕ) → x ≡ f (get_or new i 0) → Gathering f old from to room (set new k x) (i + 1) (k + 1)
-  gather-on h l x e = record {
-    long = simp length-set g.long;
-    here = omega arith;
-    place = omega (arith, g.place);
-    behind = omega (arith, g.behind);
-    is =
-        ap (λ (r : List ℕ). sets (set new k x) (k + 1) (map f r)) (span-kept (set-kept k (k + 1) new k x (omega arith) (omega arith)) (i + 1) to g.behind)
-        ∙ rw (add-one k, e) (ap (λ (r : List ℕ). sets new k (map f r)) (sym (span-cons new i to h l)))
-        ∙ g.is;
-  }
+module _ {f : ℕ → ℕ} {old : List ℕ} {from to room : ℕ} {new : List ℕ} {i : ℕ} (g : Gathering f old from to room new i) where
+  pub gather-on : from ≤ i → i < to → to ≤ room → to ≤ length new → (x : ℕ) → x ≡ f (get_or new i 0) → Gathering f old from to room (set new (room + (i - from)) x) (i + 1)
+  gather-on a h b l x e =
+      let k : room + (i + 1 - from) ≡ suc (room + (i - from)) = omega arith in
+      record {
+        long = simp length-set g.long;
+        is =
+            ap (λ (n : ℕ). sets (set new (room + (i - from)) x) n (map f (span (set new (room + (i - from)) x) (i + 1) to))) k
+            ∙ ap (λ (r : List ℕ). sets (set new (room + (i - from)) x) (suc (room + (i - from))) (map f r))
+            (span-kept (set-kept (room + (i - from)) (suc (room + (i - from))) new (room + (i - from)) x (omega arith) (omega arith)) (i + 1) to (omega arith))
+            ∙ rw e (ap (λ (r : List ℕ). sets new (room + (i - from)) (map f r)) (sym (span-cons new i to h l)))
+            ∙ g.is;
+      }
 
   pub gather-end : to ≤ i → new ≡ sets old room (map f (span old from to))
   gather-end h = rw (← span_none new i to h) at g.is
 
--- ---- walked over: the answer for all is that for the words from i on, to start at n
-pub record Chain (s index : List ℕ) (from to i n : ℕ) : Type 0 where
-  pub is : join_from 0 (map (words_at s) (span index from to)) ≡ join_from n (map (words_at s) (span index i to))
-  pub ends : All (λ p. Ends (words_at s p)) (span index i to)
+-- ---- walked over: the answer for all is that for those from the i-th on, to start at n
+pub record Chain (s offsets : List ℕ) (i n : ℕ) : Type 0 where
+  pub is : join_from 0 (map (words_at s) offsets) ≡ join_from n (map (words_at s) (drop i offsets))
+  pub ends : All (λ p. Ends (words_at s p)) (drop i offsets)
 
-pub chain-start : (s index : List ℕ) (from to : ℕ) → All (λ p. Ends (words_at s p)) (span index from to) → Chain s index from to from 0
-chain-start s index from to h = record { is = refl; ends = h }
-
-module _ {s index : List ℕ} {from to i n : ℕ} (g : Chain s index from to i n) where
+module _ {s offsets : List ℕ} {i n : ℕ} (g : Chain s offsets i n) where
   abbrev whole : Bool
-  whole = join_from 0 (map (words_at s) (span index from to))
+  whole = join_from 0 (map (words_at s) offsets)
 
-  pub chain-end : to ≤ i → true ≡ whole
+  pub chain-end : length offsets ≤ i → true ≡ whole
   unfolding join_from
-  chain-end h = sym (g.is ∙ rw (← span_none index i to h))
+  chain-end h = sym (g.is ∙ rw (drop_of_length-le offsets h))
 
-  module _ (h : i < to) (l : to ≤ length index) {p : ℕ} (e : p ≡ get_or index i 0) {o : ℕ} (eo : o ≡ number_at 8 s p) where
-    this : span index i to ≡ p ∷ span index (i + 1) to
-    this = rw e (span-cons index i to h l)
+  module _ (h : i < length offsets) {o : ℕ} (eo : o ≡ number_at 8 s (get_or offsets i 0)) where
+    this : drop i offsets ≡ get_or offsets i 0 ∷ drop (i + 1) offsets
+    this = rw (add-one i) (drop-cons offsets i 0 h)
 
-    left : All (λ q. Ends (words_at s q)) (p ∷ span index (i + 1) to)
+    left : All (λ q. Ends (words_at s q)) (get_or offsets i 0 ∷ drop (i + 1) offsets)
     left = subst (All (λ q. Ends (words_at s q))) this g.ends
 
     pub chain-no : (o ≡ n → ⊥) → false ≡ whole
     unfolding join_from
     chain-no d = sym (g.is ∙ rw (this, ← eo, ne_eqb o n d))
 
-    module _ {b m : ℕ} (eb : b ≡ min (p + 8) (length s)) (em : m ≡ number_at 8 s b) where
-      second : m ≡ (words_at s p).1
+    module _ {b m : ℕ} (eb : b ≡ min (get_or offsets i 0 + 8) (length s)) (em : m ≡ number_at 8 s b) where
+      second : m ≡ (words_at s (get_or offsets i 0)).1
       second = em ∙ ap (number_at 8 s) eb
 
       pub chain-small : o + m < 2 ^ 64
       chain-small = omega (arith, eo, second, left.0)
 
-      pub chain-on : o ≡ n → Chain s index from to (i + 1) (o + m)
+      pub chain-on : o ≡ n → Chain s offsets (i + 1) (o + m)
       unfolding join_from
       chain-on q = record { is = g.is ∙ rw (this, ← second, ← eo, eq-eqb o n q); ends = left.1 }
 
 -- ---- sorted
 -- positions in the order of their numbers are words in order
 module _ (s : List ℕ) where
-  below-words : (p : ℕ) (ps : List ℕ) → Below (at_most 1 s) p ps → All (λ w. leb (words_at s p).0 w.0 ≡ true) (map (words_at s) ps)
+  below-words : (p : ℕ) (ps : List ℕ) → Below (at_most Number s) p ps → All (λ w. leb (words_at s p).0 w.0 ≡ true) (map (words_at s) ps)
   below-words p [] h = tt
-  below-words p (q ∷ ps) h = (most-number 1 s p q refl refl refl ∙ h.0, below-words p ps h.1)
+  below-words p (q ∷ ps) h = (most-number s p q refl refl ∙ h.0, below-words p ps h.1)
 
-  ordered_words : (ps : List ℕ) → Ordered (at_most 1 s) ps → InOrder (map (words_at s) ps)
+  ordered_words : (ps : List ℕ) → Ordered (at_most Number s) ps → InOrder (map (words_at s) ps)
   ordered_words [] h = tt
   ordered_words (p ∷ ps) h = (below-words p ps h.0, ordered_words ps h.1)
 
@@ -131,7 +129,7 @@ module _ {s old : List ℕ} {from to room : ℕ} (r : Room s old from to room) (
       let e : room + (to - from) - room ≡ length offsets = omega (arith, many) in
       rw e (stored old room offsets (omega (arith, many, r.fits)))
 
-  module _ {mid new : List ℕ} (e : mid ≡ sets old room offsets) (o : SortedIn (at_most 1 s) room (to - from) mid new) where
+  module _ {mid new : List ℕ} (e : mid ≡ sets old room offsets) (o : SortedIn (at_most Number s) room (to - from) mid new) where
     perm : Permᴰ offsets (span new room (room + (to - from)))
     perm = subst (λ l. Permᴰ l (span new room (room + (to - from)))) (ap (λ l. span l room (room + (to - from))) e ∙ gathered) o.sorts.perm
 

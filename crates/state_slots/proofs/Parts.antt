@@ -2,11 +2,14 @@
 use Prim.Native.Nat.{ℕ, ◌+◌, ◌-◌, ◌^◌, ◌≤◌, ◌<◌, min}
 use native.Mathlib.Omega.{arith}
 use mathlib.Core.Path.{◌≡◌, refl}
-use mathlib.Core.Bool.{Bool}
+use mathlib.Core.Bool.{Bool, true, false}
 use mathlib.Core.List.{List}
 use lib.ListN.{length, get_or}
 use lib.Dec.{eqb}
 use borrow.Author.Tests.{eq-eqb, ne_eqb, lt-ltb, le-ltb}
+use Rattle.std.specs.Prelude.{Result, Ok, Err}
+use Rattle.state.specs.declared.Question.{Question}
+use Rattle.state.specs.Outcome.{said}
 use Rattle.format.specs.Lists.{same}
 use Rattle.format.specs.Format.{text}
 use Rattle.format.specs.Keys.{block_key}
@@ -34,10 +37,18 @@ module _ (s : List ℕ) (p : ℕ) where
   unfolding words slot_offset slot_length value_at past slot_rest
   words-at = refl
 
-pub keys-at : (s : List ℕ) (slot block : ℕ) {x y : List ℕ} {b : Bool} → x ≡ key_at (numbered 9) s slot → y ≡ key_at (numbered 3) s block → b ≡ same x y
-    → b ≡ same (key_at state_slots s slot) (key_at blocks s block)
-unfolding numbered
-keys-at s slot block e f g = rw (g, e, f)
+module _ (s : List ℕ) (slot block : ℕ) {x y : List ℕ} {b : Bool} (e : x ≡ key_at (numbered 9) s slot) (f : y ≡ key_at (numbered 3) s block) (g : b ≡ same x y) where
+  keys-at : b ≡ same (key_at state_slots s slot) (key_at blocks s block)
+  unfolding numbered
+  keys-at = rw (g, e, f)
+
+  pub other_key : b ≡ false → Err (record { 0 = 21 }) ≡ said (21 unless (same (key_at state_slots s slot) (key_at blocks s block)))
+  unfolding ◌unless◌
+  other_key h = rw (← keys-at, h)
+
+  pub same_key : b ≡ true → Ok tt ≡ said (21 unless (same (key_at state_slots s slot) (key_at blocks s block)))
+  unfolding ◌unless◌
+  same_key h = rw (← keys-at, h)
 
 -- 22 and 23 of a slot, whose key ends at a and whose words start at o, n of them, and of its block, which has m
 module _ (s : List ℕ) (block slot : ℕ) {a o b n m : ℕ} (ea : a ≡ past block_key s slot) (eo : o ≡ number_at 8 s a) (eb : b ≡ min (a + 8) (length s)) (en : n ≡ number_at 8 s b)
@@ -50,14 +61,14 @@ module _ (s : List ℕ) (block slot : ℕ) {a o b n m : ℕ} (ea : a ≡ past bl
   unfolding slot_length value_at past slot_rest
   holds = rw (en, eb, ea)
 
-  pub other_length : (n ≡ m → ⊥) → 22 ≡ pair_answer (block_at s block) (slot_at s slot)
+  pub other_length : (n ≡ m → ⊥) → Err (record { 0 = 22 }) ≡ said (pair_answer (block_at s block) (slot_at s slot))
   unfolding pair_answer first ◌unless◌
   other_length h = rw (holds, ← em, ne_eqb n m h)
 
-  pub ends-late : n ≡ m → 18446744073709551615 - o < n → 23 ≡ pair_answer (block_at s block) (slot_at s slot)
+  pub ends-late : n ≡ m → 2 ^ 64 ≤ o + n → Err (record { 0 = 23 }) ≡ said (pair_answer (block_at s block) (slot_at s slot))
   unfolding pair_answer first ◌unless◌ end_fits
-  ends-late h l = rw (starts, holds, ← em, eq-eqb n m h, le-ltb (o + n) (2 ^ 64) (omega arith))
+  ends-late h l = rw (starts, holds, ← em, eq-eqb n m h, le-ltb (o + n) (2 ^ 64) l)
 
-  pub both_hold : o < 2 ^ 64 → n ≡ m → n ≤ 18446744073709551615 - o → 0 ≡ pair_answer (block_at s block) (slot_at s slot)
+  pub both_hold : n ≡ m → o + n < 2 ^ 64 → Ok tt ≡ said (pair_answer (block_at s block) (slot_at s slot))
   unfolding pair_answer first ◌unless◌ end_fits
-  both_hold i h l = rw (starts, holds, ← em, eq-eqb n m h, lt-ltb (o + n) (2 ^ 64) (omega arith))
+  both_hold h l = rw (starts, holds, ← em, eq-eqb n m h, lt-ltb (o + n) (2 ^ 64) l)

@@ -1,5 +1,5 @@
 -- Questions 21 to 24 by the words of the index, as the walks ask them.
-use Rattle.std.specs.Prelude.{ℕ, ◌+◌, ◌-◌, ◌^◌, ◌≤◌, ◌<◌, min, ◌≡◌, List, [], ◌∷◌, map, Bool, true, false, ◌&&◌, length, get_or, eqb}
+use Rattle.std.specs.Prelude.{ℕ, ◌+◌, ◌-◌, ◌^◌, ◌≤◌, ◌<◌, min, ◌≡◌, List, [], ◌∷◌, map, Bool, true, false, ◌&&◌, length, get_or, eqb, Option, Some, None}
 use Rattle.state.specs.Bytes.{span}
 use Rattle.format.specs.Lists.{same}
 use Rattle.format.specs.Manifest.{entry, blocks, state_slots}
@@ -21,10 +21,17 @@ slot_at s p = value_at (entry state_slots) s p
 abbrev pub stateful_of : (s index : List ℕ) → (from to : ℕ) → List ℕ
 stateful_of s index from to = keep (λ p. is_stateful (block_at s p)) (span index from to)
 
--- the next stateful block among them is listed by word r, or there is none
-pub record NextStateful (s index : List ℕ) (from to r : ℕ) : Type 0 where
-  pub one : r < to → stateful_of s index from to ≡ get_or index r 0 ∷ stateful_of s index (r + 1) to
-  pub none : to ≤ r → stateful_of s index from to ≡ []
+-- the next stateful block among them is listed by a word, or there is none
+pub record NextStateful (s index : List ℕ) (from to : ℕ) (r : Option ℕ) : Type 0 where
+  pub one : (w : ℕ) → r ≡ Some w → (w < to) × (stateful_of s index from to ≡ get_or index w 0 ∷ stateful_of s index (w + 1) to)
+  pub none : r ≡ None → stateful_of s index from to ≡ []
+
+-- what blocks and slots are asked pair by pair; 21 where one is left alone
+unfoldable pub pairwise : {A B : Type 0} → (A → B → ℕ) → List A → List B → ℕ
+pairwise f [] [] = 0
+pairwise f [] (e ∷ es) = 21
+pairwise f (b ∷ bs) [] = 21
+pairwise f (b ∷ bs) (e ∷ es) = first (f b e ∷ pairwise f bs es ∷ [])
 
 -- one list is the other
 unfoldable pub same_lists : List (List ℕ) → List (List ℕ) → Bool
@@ -41,13 +48,8 @@ keys_agree s bs es = same_lists (map (key_at state_slots s) es) (map (key_at blo
 unfoldable pub pair_answer : Entry blocks → Entry state_slots → ℕ
 pair_answer b e = first (22 unless (eqb (slot_length e) (state_len b)) ∷ 23 unless (end_fits e) ∷ [])
 
-unfoldable pub pair_answers : List (Entry blocks) → List (Entry state_slots) → ℕ
-pair_answers [] es = 0
-pair_answers (b ∷ bs) [] = 0
-pair_answers (b ∷ bs) (e ∷ es) = first (pair_answer b e ∷ pair_answers bs es ∷ [])
-
 abbrev pub answers_at : List ℕ → (bs es : List ℕ) → ℕ
-answers_at s bs es = pair_answers (map (block_at s) bs) (map (slot_at s) es)
+answers_at s bs es = pairwise pair_answer (map (block_at s) bs) (map (slot_at s) es)
 
 -- the words of a slot whose offset stands at a position: the first, and how many
 abbrev pub words_at : List ℕ → ℕ → ℕ × ℕ

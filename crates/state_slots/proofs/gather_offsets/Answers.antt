@@ -6,36 +6,18 @@ use native.Mathlib.Omega.{arith}
 use Rattle.state_slots.proofs.gather_offsets.Goals as goal
 
 pub loop-i-init : goal.loop-i-init
-loop-i-init c = gather-start _ _ _ _ _ c.requires.forward c.requires.below
-
-pub word_at-requires : goal.word_at-requires
-word_at-requires c = omega arith
+loop-i-init c = gather-start _ _ _ _ _
 
 pub overflow_cast-index : goal.overflow_cast-index
 overflow_cast-index c =
     omega (arith, c.block_key_end.ensures, key-within c.args.s.now c.word_at.result, c.requires.short)
 
-pub offset_bounds-index-k : goal.offset_bounds-index-k
-offset_bounds-index-k c = omega arith
-
-pub bounds-index-k : goal.bounds-index-k
-bounds-index-k c = omega arith
-
-pub overflow_add-i : goal.overflow_add-i
-overflow_add-i c = omega arith
-
-pub overflow_add-k : goal.overflow_add-k
-overflow_add-k c = omega arith
-
-pub loop-i-smaller : goal.loop-i-smaller
-loop-i-smaller c = omega arith
-
 pub loop-i-preserved : goal.loop-i-preserved
 loop-i-preserved c =
-    gather-on c.loop-i.invariant c.loop-i-test.true (omega arith) c.block_key_end.result (c.block_key_end.ensures ∙ ap (past block_key c.args.s.now) c.word_at.ensures)
+    gather-on c.loop-i.invariant (omega arith) (omega arith) (omega arith) (omega arith) c.block_key_end.result (c.block_key_end.ensures ∙ ap (past block_key c.args.s.now) c.word_at.ensures)
 
 pub shape_of-index : goal.shape_of-index
 shape_of-index c = c.loop-i.invariant.long
 
 pub returns : goal.returns
-returns c = gather-end c.loop-i.invariant c.loop-i-test.false
+returns c = gather-end c.loop-i.invariant (omega arith)

@@ -1,11 +1,7 @@
 use Rattle.state_slots.proofs.Offsets.{Gathering}
 use Rattle.format.specs.Places.{past}
 use Rattle.format.specs.Keys.{block_key}
-use Prim.Native.Nat.{◌-◌}
 use Rattle.state_slots.proofs.gather_offsets.Given as goal
 
 abbrev pub invariant-loop-i : goal.invariant-loop-i
-invariant-loop-i l = Gathering (past block_key l.s) l.initial.index l.from l.to l.room l.index l.i l.k
-
-abbrev pub decreases-loop-i : goal.decreases-loop-i
-decreases-loop-i l = l.to - l.i
+invariant-loop-i l = Gathering (past block_key l.s) l.initial.index l.fn.slots.from l.fn.slots.to l.room l.index l.i

@@ -6,10 +6,10 @@ pub returns-then-length-state_len : goal.returns-then-length-state_len
 returns-then-length-state_len c =
     other_length c.args.s.now c.args.block c.args.slot c.block_key_end-at.ensures c.number_at-offset.ensures c.ahead.ensures c.number_at-length.ensures c.state_len.ensures c.if-length-state_len.true
 
-pub returns-then-offset-length : goal.returns-then-offset-length
-returns-then-offset-length c =
-    ends-late c.args.s.now c.args.block c.args.slot c.block_key_end-at.ensures c.number_at-offset.ensures c.ahead.ensures c.number_at-length.ensures c.state_len.ensures c.if-length-state_len.false c.if-offset-length.true
+pub returns-then-is_none : goal.returns-then-is_none
+returns-then-is_none c =
+    ends-late c.args.s.now c.args.block c.args.slot c.block_key_end-at.ensures c.number_at-offset.ensures c.ahead.ensures c.number_at-length.ensures c.state_len.ensures (omega arith) (grind arith)
 
 pub returns : goal.returns
 returns c =
-    both_hold c.args.s.now c.args.block c.args.slot c.block_key_end-at.ensures c.number_at-offset.ensures c.ahead.ensures c.number_at-length.ensures c.state_len.ensures (omega arith) c.if-length-state_len.false c.if-offset-length.false
+    both_hold c.args.s.now c.args.block c.args.slot c.block_key_end-at.ensures c.number_at-offset.ensures c.ahead.ensures c.number_at-length.ensures c.state_len.ensures (omega arith) (grind arith)

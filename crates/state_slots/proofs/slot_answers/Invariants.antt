@@ -1,10 +1,5 @@
-use Rattle.state_slots.proofs.Walks.{Walking}
-use Rattle.state_slots.specs.Walk.{answers_at}
-use Prim.Native.Nat.{◌-◌}
+use Rattle.state_slots.specs.Walk.{block_at, slot_at, pair_answer}
 use Rattle.state_slots.proofs.slot_answers.Given as goal
 
-abbrev pub invariant-loop-slot : goal.invariant-loop-slot
-invariant-loop-slot l = Walking (answers_at l.s) l.s l.index l.from l.to l.start l.stop l.block l.slot
-
-abbrev pub decreases-loop-slot : goal.decreases-loop-slot
-decreases-loop-slot l = l.stop - l.slot
+abbrev pub ghost-for_pairs : goal.ghost-for_pairs
+ghost-for_pairs a b e = pair_answer (block_at a.s.now b) (slot_at a.s.now e)

@@ -1,10 +1,8 @@
-use Rattle.state_slots.proofs.Walks.{Walking}
-use Rattle.state_slots.specs.Walk.{keys_agree}
-use Prim.Native.Nat.{◌-◌}
+use Rattle.format.specs.Lists.{same}
+use Rattle.format.specs.Manifest.{blocks, state_slots}
+use Rattle.format.specs.Places.{key_at}
+use Rattle.questions.specs.Sets.{◌unless◌}
 use Rattle.state_slots.proofs.slot_keys_are.Given as goal
 
-abbrev pub invariant-loop-slot : goal.invariant-loop-slot
-invariant-loop-slot l = Walking (keys_agree l.s) l.s l.index l.from l.to l.start l.stop l.block l.slot
-
-abbrev pub decreases-loop-slot : goal.decreases-loop-slot
-decreases-loop-slot l = l.stop - l.slot
+abbrev pub ghost-for_pairs : goal.ghost-for_pairs
+ghost-for_pairs a b e = 21 unless (same (key_at state_slots a.s.now e) (key_at blocks a.s.now b))

@@ -5,7 +5,7 @@ use Rattle.state_slots.proofs.slots_cover.Goals as goal
 
 pub slots_join-requires : goal.slots_join-requires
 slots_join-requires c =
-    record { to_in_bounds = omega arith; all = sorted-ends c.requires.room c.requires.all c.gather_offsets.ensures c.sort.ensures }
+    sorted-ends c.requires.room c.requires.all c.gather_offsets.ensures c.sort.ensures
 
 pub returns : goal.returns
 returns c =
