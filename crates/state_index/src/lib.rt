@@ -41,24 +41,12 @@ pub struct Table {
     pub to: usize,
 }
 
-// Sets the words from..to to x.
-fn fill(index: &mut [u32], from: usize, to: usize, x: u32)
-    requires { (from ≤ to) × (to ≤ length index.old) }
-    ensures { index.new ≡ take from index.old ++ (replicate (to - from) x ++ drop to index.old) }
-{
-    let mut i = from;
-    while i < to {
-        index[i] = x;
-        i += 1;
-    }
-}
-
 // Sets the words from..to to 0.
 pub fn clear(index: &mut [u32], from: usize, to: usize)
     requires { (from ≤ to) × (to ≤ length index.old) }
     ensures { index.new ≡ take from index.old ++ (replicate (to - from) 0 ++ drop to index.old) }
 {
-    fill(index, from, to, 0);
+    index[from..to].fill(0);
 }
 
 // A position n bytes further on, or the end of the bytes.
