@@ -1,13 +1,13 @@
 -- The table of a sift, over any key and any slots that equal keys share: what is placed in it, what is left, and what that says of different
 -- keys. The position `first` stands in each slot that is free, and in its own for good.
-use mathlib.Core.Path.{◌≡◌, refl, sym, ap, ◌∙◌, subst}
+use mathlib.Core.Path.{◌≡◌, refl, sym, ap, ◌∙◌}
 use mathlib.Core.List.Permᴰ
 use mathlib.Core.List.{List, [], ◌∷◌, ◌++◌, map, append-nil}
 use mathlib.Core.Bool.{Bool, true, false, not, ◌&&◌, ◌||◌}
 use Prim.Native.Nat.{ℕ, suc, ◌+◌, ◌-◌, ◌≤◌, ◌<◌}
 use native.Mathlib.Numerals.{add-one}
 use native.Mathlib.Omega.{arith}
-use lib.ListN.{length, get_or, take, set, replicate, length-append, length-take, length-replicate, length-drop, get_or-replicate}
+use lib.ListN.{length, get_or, take, set, replicate, length-take, length-replicate, length-drop, get_or-replicate}
 use lib.Dec.{eqb, ltb}
 use lib.Seq.{slice, slice-cons, take-set-le, take-suc-set, append_snoc, get_or-set_same, get_or-set_other, get_or-take}
 use borrow.Author.Tests.{eqb-true, eqb-false, lt-ltb, le-ltb}

@@ -5,7 +5,7 @@ ghost use Rattle.state_index.specs.Keys.{text_at};
 ghost use Rattle.state_index.specs.Sift.{rolled, spread, mark, slot_at};
 
 use super::keys::{byte_at, number_at};
-use super::merge::rising;
+use super::positions::rising;
 use super::{SortKey, sort, text_part};
 use state_key_order::same_bytes;
 
@@ -108,5 +108,5 @@ pub(crate) fn different(s: &[u8], w: &mut [u32], n: usize) -> bool
         return false;
     }
     sort(s, SortKey::Text, w, 0, last);
-    rising(s, SortKey::Text, w, 0, last)
+    rising(s, &w[..last])
 }

@@ -1,7 +1,5 @@
-use Prim.Native.Nat.{ℕ, ◌-◌}
 use native.Mathlib.Omega.{arith}
 use mathlib.Core.Path.{refl}
-use lib.ListN.{length}
 use Rattle.std.proofs.Common.{rules}
 use Rattle.state_index.proofs.Slots.{slot-below, slots-shared}
 use Rattle.state_index.proofs.Sieve.{held-filled, held-placed, held-left, held-same, held-end}
