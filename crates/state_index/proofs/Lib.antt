@@ -3,7 +3,7 @@
 pub mod Order
 pub mod Lists
 pub mod Sorting
-pub mod Halves
+pub mod Lent
 pub mod Texts
 pub mod Slots
 pub mod Sieve

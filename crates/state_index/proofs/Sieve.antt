@@ -1,20 +1,23 @@
 -- The table of a sift, over any key and any slots that equal keys share: what is placed in it, what is left, and what that says of different
 -- keys. The position `first` stands in each slot that is free, and in its own for good.
-use mathlib.Core.Path.{◌≡◌, refl, sym, ap, ◌∙◌, subst}
+use mathlib.Core.Path.{◌≡◌, refl, sym, ap, ◌∙◌}
 use mathlib.Core.List.Permᴰ
 use mathlib.Core.List.{List, [], ◌∷◌, ◌++◌, map, append-nil}
 use mathlib.Core.Bool.{Bool, true, false, not, ◌&&◌, ◌||◌}
 use Prim.Native.Nat.{ℕ, suc, ◌+◌, ◌-◌, ◌≤◌, ◌<◌}
 use native.Mathlib.Numerals.{add-one}
 use native.Mathlib.Omega.{arith}
-use lib.ListN.{length, get_or, take, set, length-append, length-take, length-replicate, length-drop}
+use lib.ListN.{length, get_or, take, set, replicate, length-take, length-replicate, length-drop, get_or-replicate}
 use lib.Dec.{eqb, ltb}
 use lib.Seq.{slice, slice-cons, take-set-le, take-suc-set, append_snoc, get_or-set_same, get_or-set_other, get_or-take}
 use borrow.Author.Tests.{eqb-true, eqb-false, lt-ltb, le-ltb}
 use Rattle.format.specs.Lists.{same, is_in, all_different}
 use Rattle.format.proofs.Lists.{same_true}
 use Rattle.state_index.proofs.Order.{apart, is_false}
-use Rattle.state_index.proofs.Lists.{slice-past, slice-set-after, slice-set-before, filled, filled-front, filled_at}
+use borrow.Rule.Slice.PartMut.{mid_of, put_mid, same_len_mid, take_put}
+use Rattle.std.proofs.lemmas.List.{places}
+use Rattle.std.proofs.Common.{rules}
+use Rattle.state_index.proofs.Lists.{slice-past, slice-set-after, slice-set-before}
 use Rattle.state_index.proofs.Sorting.{perm-map, different-perm}
 
 and-true : (b : Bool) → b ≡ (b && true)
@@ -157,87 +160,84 @@ module _ (key : ℕ → List ℕ) (slot : ℕ → ℕ) (first : ℕ) where
 -- ---- the words: k positions left at the front, those from i up to n to come, and the table from n on
 
 module _ (key : ℕ → List ℕ) (slot : ℕ → ℕ) (first n : ℕ) where
-  abbrev pub table : List ℕ → ℕ → ℕ
+  abbrev table : List ℕ → ℕ → ℕ
   table w g = get_or w (n + g) 0
 
   -- what has been told of the first n positions of o
-  abbrev pub Held : (o w : List ℕ) (k i : ℕ) → Type 0
-  Held o w k i =
-      Settled key slot first (table w) (take k w) × (all_different (map key (take n o)) ≡ good key slot first (table w) (take k w ++ slice i n w))
+  pub record Held (o w : List ℕ) (k i : ℕ) : Type 0 where
+    pub settled : Settled key slot first (table w) (take k w)
+    pub same : all_different (map key (take n o)) ≡ good key slot first (table w) (take k w ++ slice i n w)
 
-  pub held_start : (w : List ℕ) → 0 < n → n ≤ length w → get_or w 0 0 ≡ first → ((q : ℕ) → table w (slot q) ≡ first) → Held w w 0 1
-  held_start w h g e f = (
-    tt,
-    ap (λ (r : List ℕ). all_different (map key r)) (slice-cons 0 n w 0 h g)
-        ∙ different-middle key slot first [] (get_or w 0 0) (slice 1 n w)
-        ∙ rw (e, misses-first key slot first (table w) f (slice 1 n w)) (and_comm (not (is_in (key first) (map key (slice 1 n w)))) (all_different (map key (slice 1 n w)))),
-  )
+  -- the table filled at the start
+  pub held-filled : (w p : List ℕ) → p ≡ replicate (length (mid_of n (length w - n) w)) first → get_or w 0 0 ≡ first → 0 < n → n ≤ length w
+      → ((q : ℕ) → slot q < length w - n) → Held w (put_mid n (length w - n) w p) 0 1
+  held-filled w p e f h g b =
+      let v : List ℕ = put_mid n (length w - n) w p in
+      let len : length v ≡ length w = same_len_mid n (length w - n) w p (simp length-replicate at (ap length e)) in
+      let same : take n v ≡ take n w = take_put n (length w - n) w p g in
+      let zeroth : get_or v 0 0 ≡ first = sym (get_or-take n v 0 0 h) ∙ ap (λ (r : List ℕ). get_or r 0 0) same ∙ get_or-take n w 0 0 h ∙ f in
+      let at : (q : ℕ) → table v (slot q) ≡ first = λ q. let m : slot q < length w - n = b q in rw e (search (rules, places, get_or-replicate, length-replicate, length-take, length-drop)) in
+      record {
+        settled = tt;
+        same =
+            ap (λ (r : List ℕ). all_different (map key r)) (sym same ∙ slice-cons 0 n v 0 h (omega arith))
+            ∙ different-middle key slot first [] (get_or v 0 0) (slice 1 n v)
+            ∙ rw (zeroth, misses-first key slot first (table v) at (slice 1 n v)) (and_comm (not (is_in (key first) (map key (slice 1 n v)))) (all_different (map key (slice 1 n v))));
+      }
 
-  -- the table as it is filled at the start
-  module _ (w v : List ℕ) (e : v ≡ filled first n (length w) w) (g : n ≤ length w) where
-    pub filled-same : take n v ≡ take n w
-    filled-same = ap (take n) e ∙ filled-front first n (length w) n w (omega arith) g
+module _ {key : ℕ → List ℕ} {slot : ℕ → ℕ} {first n : ℕ} {o w : List ℕ} {k i : ℕ} (held : Held key slot first n o w k i) where
+  abbrev x : ℕ
+  x = get_or w i 0
 
-    pub held-filled : get_or w 0 0 ≡ first → 0 < n → ((q : ℕ) → slot q < length w - n) → Held v v 0 1
-    held-filled f h b =
-        let len : length v ≡ length w = ap length e ∙ simp (length-append, length-take, length-replicate, length-drop) (omega arith) in
-        let zeroth : get_or v 0 0 ≡ first = sym (get_or-take n v 0 0 h) ∙ ap (λ (r : List ℕ). get_or r 0 0) filled-same ∙ get_or-take n w 0 0 h ∙ f in
-        held_start v h (omega arith) zeroth (λ q. ap (λ (r : List ℕ). get_or r (n + slot q) 0) e ∙ filled_at first n (length w) (slot q) w g (b q))
+  next : i < n → n ≤ length w → all_different (map key (take n o)) ≡ good key slot first (table key slot first n w) (take k w ++ x ∷ slice (suc i) n w)
+  next hi hw = held.same ∙ ap (λ (r : List ℕ). good key slot first (table key slot first n w) (take k w ++ r)) (slice-cons i n w 0 hi hw)
 
-  -- what the tests have told, by the number h of the slot of x
-  module _ (w : List ℕ) (x h : ℕ) (e : h ≡ slot x) {r b : Bool} where
-    pub free_of : {own : ℕ} → own ≡ slot first → r ≡ (eqb (get_or w (n + h) 0) first && not (eqb h own)) → r ≡ b → free key slot first (table w) x ≡ b
-    free_of f p q = rw (← e, ← f) (sym p ∙ q)
+  -- x goes into its slot h, which is free
+  pub held-placed : {h own : ℕ} {r : Bool} → h ≡ slot x → own ≡ slot first → r ≡ (eqb (get_or w (n + h) 0) first && not (eqb h own)) → r ≡ true
+      → ((p q : ℕ) → key p ≡ key q → slot p ≡ slot q) → k < i → i < n → n + h < length w → Held key slot first n o (set w (n + h) x) k (i + 1)
+  held-placed {h} {own} e d t u shared hk hi l =
+      let v : List ℕ = set w (n + h) x in
+      let f : free key slot first (table key slot first n w) x ≡ true = rw (← e, ← d) (sym t ∙ u) in
+      let here : table key slot first n v (slot x) ≡ x = rw (← e) (get_or-set_same w (n + h) x 0 l) in
+      let there : (g : ℕ) → (g ≡ slot x → ⊥) → table key slot first n v g ≡ table key slot first n w g = λ g d. get_or-set_other w (n + h) (n + g) x 0 (λ z. d (omega arith)) in
+      let front : take k v ≡ take k w = take-set-le k w (n + h) x (omega arith) in
+      let rest : slice (i + 1) n v ≡ slice (suc i) n w = ap (λ (j : ℕ). slice j n v) (add-one i) ∙ slice-set-after (suc i) n w (n + h) x (omega arith) in
+      record {
+        settled = rw front (settled-placed key slot first shared (table key slot first n w) (table key slot first n v) x f here there (take k w) held.settled);
+        same = next hi (omega arith) ∙ good_placed key slot first shared (table key slot first n w) (table key slot first n v) x f here there (take k w) (slice (suc i) n w) ∙ rw (front, rest);
+      }
 
-    pub hit-of : r ≡ same (key (get_or w (n + h) 0)) (key x) → r ≡ b → hit key slot first (table w) x ≡ b
-    hit-of p q = rw (← e) (sym p ∙ q)
-
-  module _ (o w : List ℕ) (k i : ℕ) (hk : k < i) (hi : i < n) (hw : n ≤ length w) (held : Held o w k i) where
-    abbrev x : ℕ
-    x = get_or w i 0
-
-    next : all_different (map key (take n o)) ≡ good key slot first (table w) (take k w ++ x ∷ slice (suc i) n w)
-    next = held.1 ∙ ap (λ (r : List ℕ). good key slot first (table w) (take k w ++ r)) (slice-cons i n w 0 hi hw)
-
-    pub held-placed : ((p q : ℕ) → key p ≡ key q → slot p ≡ slot q) → n + slot x < length w → free key slot first (table w) x ≡ true → Held o (set w (n + slot x) x) k (i + 1)
-    held-placed shared l f =
-        let v : List ℕ = set w (n + slot x) x in
-        let here : table v (slot x) ≡ x = get_or-set_same w (n + slot x) x 0 l in
-        let there : (g : ℕ) → (g ≡ slot x → ⊥) → table v g ≡ table w g = λ g d. get_or-set_other w (n + slot x) (n + g) x 0 (λ e. d (omega arith)) in
-        let front : take k v ≡ take k w = take-set-le k w (n + slot x) x (omega arith) in
-        let rest : slice (suc i) n v ≡ slice (suc i) n w = slice-set-after (suc i) n w (n + slot x) x (omega arith) in (
-          subst (λ (r : List ℕ). Settled key slot first (table v) r) (sym front) (settled-placed key slot first shared (table w) (table v) x f here there (take k w) held.0),
-          next
-              ∙ good_placed key slot first shared (table w) (table v) x f here there (take k w) (slice (suc i) n w)
-              ∙ ap (λ (r : List ℕ). good key slot first (table v) (r ++ slice (suc i) n w)) (sym front)
-              ∙ ap (λ (r : List ℕ). good key slot first (table v) (take k v ++ r)) (sym rest)
-              ∙ ap (λ (j : ℕ). good key slot first (table v) (take k v ++ slice j n v)) (sym (add-one i)),
-        )
-
-    pub held-left : hit key slot first (table w) x ≡ false → free key slot first (table w) x ≡ false → Held o (set w k x) (k + 1) (i + 1)
-    held-left a b =
+  module _ (hk : k < i) (hi : i < n) (hw : n ≤ length w) {h : ℕ} (e : h ≡ slot x) {b : Bool} (t : b ≡ same (key (get_or w (n + h) 0)) (key x)) where
+    -- x stays: another text stands in its slot for good
+    pub held-left : b ≡ false → {own : ℕ} {r : Bool} → own ≡ slot first → r ≡ (eqb (get_or w (n + h) 0) first && not (eqb h own)) → r ≡ false
+        → Held key slot first n o (set w k x) (k + 1) (i + 1)
+    held-left f {own} d u g =
         let v : List ℕ = set w k x in
-        let same-table : (g : ℕ) → table v g ≡ table w g = λ g. get_or-set_other w k (n + g) x 0 (omega arith) in
+        let a : hit key slot first (table key slot first n w) x ≡ false = rw (← e) (sym t ∙ f) in
+        let c : free key slot first (table key slot first n w) x ≡ false = rw (← e, ← d) (sym u ∙ g) in
+        let same-table : (g : ℕ) → table key slot first n v g ≡ table key slot first n w g = λ g. get_or-set_other w k (n + g) x 0 (omega arith) in
         let front : take (k + 1) v ≡ take k w ++ (x ∷ []) = ap (λ (j : ℕ). take j v) (add-one k) ∙ take-suc-set w k x (omega arith) in
-        let rest : slice (i + 1) n v ≡ slice (suc i) n w = ap (λ (j : ℕ). slice j n v) (add-one i) ∙ slice-set-before (suc i) n w k x (omega arith) in (
-          subst (λ (r : List ℕ). Settled key slot first (table v) r) (sym front)
-              (settled_same key slot first (table w) (table v) same-table (take k w ++ (x ∷ [])) (settled-more key slot first (table w) (take k w) x held.0 a b)),
-          next
-              ∙ ap (λ (r : List ℕ). good key slot first (table w) r) (sym (append_snoc (take k w) x (slice (suc i) n w)))
+        let rest : slice (i + 1) n v ≡ slice (suc i) n w = ap (λ (j : ℕ). slice j n v) (add-one i) ∙ slice-set-before (suc i) n w k x (omega arith) in
+        record {
+          settled = rw front (settled_same key slot first (table key slot first n w) (table key slot first n v) same-table (take k w ++ (x ∷ [])) (settled-more key slot first (table key slot first n w) (take k w) x held.settled a c));
+          same =
+              next hi hw
+              ∙ ap (λ (r : List ℕ). good key slot first (table key slot first n w) r) (sym (append_snoc (take k w) x (slice (suc i) n w)))
               ∙ rw (front, rest)
-              (ap (λ (m : Bool). all_different (map key (take k w ++ (x ∷ []) ++ slice (suc i) n w)) && m) (sym (misses-same key slot first (table w) (table v) same-table (take k w ++ (x ∷ []) ++ slice (suc i) n w)))),
-        )
+              (ap (λ (m : Bool). all_different (map key (take k w ++ (x ∷ []) ++ slice (suc i) n w)) && m) (sym (misses-same key slot first (table key slot first n w) (table key slot first n v) same-table (take k w ++ (x ∷ []) ++ slice (suc i) n w))));
+        }
 
-    pub held_same : hit key slot first (table w) x ≡ true → (z : Bool) → all_different (map key (take n o)) ≡ (ltb n n && z)
-    held_same a z =
+    -- its own text does
+    pub held-same : b ≡ true → (z : Bool) → all_different (map key (take n o)) ≡ (ltb n n && z)
+    held-same f z =
         let d : Bool = all_different (map key (take k w ++ x ∷ slice (suc i) n w)) in
-        next
-        ∙ ap (λ (m : Bool). d && m) (misses-none key slot first (table w) (take k w) x (slice (suc i) n w) a)
+        next hi hw
+        ∙ ap (λ (m : Bool). d && m) (misses-none key slot first (table key slot first n w) (take k w) x (slice (suc i) n w) (rw (← e) (sym t ∙ f)))
         ∙ and-false d
         ∙ sym (rw (le-ltb n n (omega arith)))
 
-  pub held-end : (o w : List ℕ) (k i : ℕ) → k < n → n ≤ i → Held o w k i → all_different (map key (take n o)) ≡ (ltb k n && all_different (map key (take k w)))
-  held-end o w k i hk hi held =
-      held.1
-      ∙ rw (slice-past i n w hi, append-nil (take k w), misses-settled key slot first (table w) (take k w) held.0, lt-ltb k n hk)
+  pub held-end : k < n → n ≤ i → all_different (map key (take n o)) ≡ (ltb k n && all_different (map key (take k w)))
+  held-end hk hi =
+      held.same
+      ∙ rw (slice-past i n w hi, append-nil (take k w), misses-settled key slot first (table key slot first n w) (take k w) held.settled, lt-ltb k n hk)
       (sym (and-true (all_different (map key (take k w)))))

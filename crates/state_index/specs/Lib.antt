@@ -1,6 +1,5 @@
--- What the contracts of `state_index` cite; `Merge` and `Sift` only those of its private functions.
+-- What the contracts of `state_index` cite; `Sift` only those of its private functions.
 pub mod Keys
 pub mod Sort
 pub mod Find
-pub mod Merge
 pub mod Sift

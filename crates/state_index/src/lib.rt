@@ -3,7 +3,7 @@
 
 pub mod hints;
 pub mod keys;
-mod merge;
+mod positions;
 mod sift;
 
 ghost use Rattle.std.specs.Prelude.{◌≡◌, ◌++◌, map, ◌+◌, ◌-◌, ◌≤◌, ◌<◌, min, length, take, drop, get_or, replicate};
@@ -18,7 +18,7 @@ ghost use Rattle.state_index.specs.Find.{key_at_most, Finds};
 
 use hints::{find_hinted, has_key};
 use keys::{block_key_end, connector_key_end};
-use merge::{rising, sort_all};
+use positions::{compare, rising};
 use sift::different;
 use state::Section;
 use state_wire::{number_at, part, remaining};
@@ -40,24 +40,12 @@ pub struct Table {
     pub to: usize,
 }
 
-// Sets the words from..to to x.
-fn fill(index: &mut [u32], from: usize, to: usize, x: u32)
-    requires { (from ≤ to) × (to ≤ length index.old) }
-    ensures { index.new ≡ take from index.old ++ (replicate (to - from) x ++ drop to index.old) }
-{
-    let mut i = from;
-    while i < to {
-        index[i] = x;
-        i += 1;
-    }
-}
-
 // Sets the words from..to to 0.
 pub fn clear(index: &mut [u32], from: usize, to: usize)
     requires { (from ≤ to) × (to ≤ length index.old) }
     ensures { index.new ≡ take from index.old ++ (replicate (to - from) 0 ++ drop to index.old) }
 {
-    fill(index, from, to, 0);
+    index[from..to].fill(0);
 }
 
 // A position n bytes further on, or the end of the bytes.
@@ -89,13 +77,12 @@ pub fn text_part(s: &[u8], at: usize) -> &[u8]
     part(s, ahead(s, at, 4), text_end(s, at))
 }
 
-// Sorts the `count` words from `from` on; as many words behind them are room.
+// Sorts the `count` words from `from` on.
 pub fn sort(s: &[u8], kind: SortKey, index: &mut [u32], from: usize, count: usize)
-    requires { from + count + count ≤ length index.old }
+    requires { from + count ≤ length index.old }
     ensures { SortedIn (at_most kind s.now) from count index.old index.new }
 {
-    let end = from + count + count;
-    sort_all(s, kind, &mut index[from..end], count);
+    index[from..from + count].sort_unstable_by(|a, b| compare(s, kind, *a, *b));
 }
 
 // Are the texts at the `count` words from `from` on all different? Where they do not rise already, it sifts them twice and sorts what is left;
@@ -106,7 +93,7 @@ pub fn all_distinct(s: &[u8], index: &mut [u32], from: usize, count: usize) -> b
     ensures kept { Kept from (from + count + count) index.old index.new }
 {
     let to = from + count;
-    if rising(s, SortKey::Text, index, from, to) {
+    if rising(s, &index[from..to]) {
         return true;
     }
     let end = to + count;

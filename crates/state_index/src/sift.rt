@@ -5,8 +5,8 @@ ghost use Rattle.state_index.specs.Keys.{text_at};
 ghost use Rattle.state_index.specs.Sift.{rolled, spread, mark, slot_at};
 
 use super::keys::{byte_at, number_at};
-use super::merge::rising;
-use super::{SortKey, fill, sort, text_part};
+use super::positions::rising;
+use super::{SortKey, sort, text_part};
 use state_key_order::same_bytes;
 
 // A number of few bytes.
@@ -42,7 +42,8 @@ fn mark_of(t: &[u8]) -> u64
 // The slot, of m, of the text at a position.
 fn slot_at(s: &[u8], m: usize, p: u32) -> usize
     requires { 0 < m }
-    ensures { result ≡ slot_at s.now m p }
+    ensures value { result ≡ slot_at s.now m p }
+    ensures bound { result < m }
 {
     (mark_of(text_part(s, p as usize)) / 16777216) as usize % m
 }
@@ -57,10 +58,7 @@ fn same_text(s: &[u8], a: u32, b: u32) -> bool
 fn is_free(v: u32, first: u32, h: usize, own: usize) -> bool
     ensures { result ≡ (eqb v first && not (eqb h own)) }
 {
-    if v == first {
-        return h != own;
-    }
-    false
+    v == first && h != own
 }
 
 // Leaves of the first n positions those r at the front whose slot was taken by another text: the texts of all n are different just where
@@ -73,25 +71,22 @@ fn sift(s: &[u8], w: &mut [u32], n: usize) -> usize
     let e = w.len();
     let m = e - n;
     let first = w[0];
-    fill(w, n, e, first);
+    w[n..].fill(first);
     let own = slot_at(s, m, first);
     let mut k = 0;
-    let mut i = 1;
-    while i < n {
+    for i in 1..n {
         let x = w[i];
         let h = slot_at(s, m, x);
         let v = w[n + h];
         if is_free(v, first, h, own) {
             w[n + h] = x;
-            i += 1;
-        } else {
-            if same_text(s, v, x) {
-                return n;
-            }
-            w[k] = x;
-            k += 1;
-            i += 1;
+            continue;
         }
+        if same_text(s, v, x) {
+            return n;
+        }
+        w[k] = x;
+        k += 1;
     }
     k
 }
@@ -113,5 +108,5 @@ pub(crate) fn different(s: &[u8], w: &mut [u32], n: usize) -> bool
         return false;
     }
     sort(s, SortKey::Text, w, 0, last);
-    rising(s, SortKey::Text, w, 0, last)
+    rising(s, &w[..last])
 }
