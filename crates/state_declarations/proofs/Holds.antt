@@ -5,19 +5,22 @@ use mathlib.Core.Path.{◌≡◌, sym, ap, ◌∙◌}
 use mathlib.Core.Bool.{Bool, true, false, ◌&&◌}
 use mathlib.Core.List.{List, [], ◌∷◌, map}
 use lib.ListN.{length, get_or}
+use Rattle.std.specs.Prelude.{Result, Ok, Err}
+use Rattle.state.specs.declared.Question.{Question}
+use Rattle.state.specs.Outcome.{said}
 use Rattle.state.specs.Bytes.{span}
 use Rattle.format.specs.Admits.{All}
 use Rattle.format.specs.Format.{El, text}
 use Rattle.format.specs.Keys.{block_key, connector_key}
 use Rattle.format.specs.Manifest.{value, params, connector_keys, block_head, block_rest, entry, enums, blocks}
-use Rattle.format.specs.Fields.{Entry, params_of, inputs, outputs, block_key_of}
+use Rattle.format.specs.Fields.{Entry, params_of}
 use Rattle.format.specs.Places.{number_at, past}
 use Rattle.format.specs.Values.{value_at, Well}
-use Rattle.questions.specs.Sets.{all, ◌unless◌, first}
-use Rattle.questions.proofs.Chains.{one-says-no}
-use Rattle.questions.specs.Declarations.{kind_holds, enum_holds, params_hold, port_holds, ports_hold, block_answer}
+use Rattle.questions.specs.Sets.{all, first}
+use Rattle.questions.specs.Declarations.{enum_holds, params_hold, port_holds, ports_hold, block_answer}
 use Rattle.state_layout.specs.Classes.{classes_at}
 use Rattle.state_layout.proofs.Tables.{limit}
+use Rattle.state_declarations.proofs.Said.{said-yes, said-no}
 use Rattle.state_declarations.proofs.Walks.{entries_at, ports_at, PortsWell, ports-list, ports-each, words-next, words-end, words-all}
 
 -- ---- a test of each
@@ -34,28 +37,15 @@ pub all_end : {A : Type 0} (t : A → Bool) {l : List A} {a : Bool} → l ≡ []
 unfolding all
 all_end t e i = sym (ap (all t) e) ∙ i
 
--- ---- the first that says no
-module _ {x : ℕ} {l xs : List ℕ} {a : ℕ} (e : l ≡ x ∷ xs) (i : first l ≡ a) where
-  first_next : x ≡ 0 → first xs ≡ a
-  unfolding first
-  first_next h = sym (ap first e ∙ rw h) ∙ i
-
-  first-no : (x ≡ 0 → ⊥) → x ≡ a
-  first-no h = one-says-no xs x h ∙ sym (ap first e) ∙ i
-
-first-end : {l : List ℕ} {a : ℕ} → l ≡ [] → first l ≡ a → 0 ≡ a
-unfolding first
-first-end e i = sym (ap first e) ∙ i
-
 -- ---- question 13
 -- a parameter passes
 abbrev pub passes : List (Entry enums) → El text × El value → Bool
 passes es p = enum_holds es p.1
 
 pub params-start : (es : List (Entry enums)) (s : List ℕ) (at : ℕ) {list n p : ℕ} → list ≡ past block_head s (past block_key s at) → n ≡ number_at 4 s list → p ≡ min (list + 4) (length s)
-    → all (passes es) (entries_at text value s n p) ≡ params_hold es (value_at (entry blocks) s at)
+    → all (passes es) (entries_at text value s (n - 0) p) ≡ params_hold es (value_at (entry blocks) s at)
 unfolding params_hold params_of block_rest params value_at
-params-start es s at e i j = rw (i, j, e)
+params-start es s at {n = n} e i j = let z : n - 0 ≡ n = omega arith in rw (z, i, j, e)
 
 -- ---- question 14
 -- the ports from place i on, at p
@@ -65,14 +55,11 @@ pub record PortsLeft (s : List ℕ) (block way at count p i : ℕ) : Type 0 wher
 
 module _ (s : List ℕ) (block way at : ℕ) where
   pub ports-start : {n p : ℕ} → Well limit connector_keys s at → n ≡ number_at 4 s at → p ≡ min (at + 4) (length s) → PortsLeft s block way at n p 0
-  ports-start {n} w i j =
-      let l = ports-list s at w i j in
-      let z : n - 0 ≡ n = omega arith in
-      record { well = rw z l.0; is = rw z (ap (ports_hold (value_at block_key s block) way 0) l.1) }
+  ports-start w i j = let l = ports-list s at w i j in record { well = l.0; is = ap (ports_hold (value_at block_key s block) way 0) l.1 }
 
   module _ {n p i : ℕ} (h : PortsLeft s block way at n p i) (l : i < n) where
     wells : Well limit connector_key s p × PortsWell s (n - (i + 1)) (past connector_key s p)
-    wells = let d : n - i - 1 ≡ n - (i + 1) = omega arith in rw d at (ports-each s (n - i) p (omega arith) h.well)
+    wells = ports-each s n i p l h.well
 
     pub port-well : Well limit connector_key s p
     port-well = wells.0
@@ -95,54 +82,39 @@ module _ (s : List ℕ) (block way at : ℕ) where
   unfolding ports_hold ports_at
   ports-end {n} {p} {i} h l = let z : n - i ≡ 0 = omega arith in rw z at h.is
 
--- ---- 12 to 14 of one block
-module _ (es : List (Entry enums)) (b : Entry blocks) where
-  pub answer-12 : kind_holds b ≡ false → 12 ≡ block_answer es b
-  unfolding block_answer first ◌unless◌
-  answer-12 h = rw h
-
-  pub answer-13 : kind_holds b ≡ true → params_hold es b ≡ false → 13 ≡ block_answer es b
-  unfolding block_answer first ◌unless◌
-  answer-13 h i = rw (h, i)
-
-  module _ (h : kind_holds b ≡ true) (i : params_hold es b ≡ true) {key : El block_key} {ins : El connector_keys} (ek : block_key_of b ≡ key) (ei : inputs b ≡ ins) where
-    pub answer-inputs : ports_hold key 0 0 ins ≡ false → 14 ≡ block_answer es b
-    unfolding block_answer first ◌unless◌
-    answer-inputs j = rw (h, i, ek, ei, j)
-
-    module _ (j : ports_hold key 0 0 ins ≡ true) {outs : El connector_keys} (eo : outputs b ≡ outs) where
-      pub answer-outputs : ports_hold key 1 0 outs ≡ false → 14 ≡ block_answer es b
-      unfolding block_answer first ◌unless◌
-      answer-outputs k = rw (h, i, ek, ei, j, eo, k)
-
-      pub answer-none : ports_hold key 1 0 outs ≡ true → 0 ≡ block_answer es b
-      unfolding block_answer first ◌unless◌
-      answer-none k = rw (h, i, ek, ei, j, eo, k)
-
 -- ---- block by block: those from word i on
 module _ (s index : List ℕ) (from to end : ℕ) where
   abbrev pub answers_from : ℕ → ℕ
   answers_from i = first (map (block_answer (classes_at s index from to)) (map (value_at (entry blocks) s) (span index i end)))
 
-pub record BlocksLeft (s index : List ℕ) (from to end i : ℕ) : Type 0 where
+pub record BlocksLeft (s index : List ℕ) (from to start end i : ℕ) : Type 0 where
   pub well : All (Well limit (entry blocks) s) (span index i end)
-  pub is : answers_from s index from to end i ≡ answers_from s index from to end to
+  pub is : answers_from s index from to end i ≡ answers_from s index from to end start
 
-module _ {s index : List ℕ} {from to end i : ℕ} (h : BlocksLeft s index from to end i) where
+module _ {s index : List ℕ} {from to start end i : ℕ} (h : BlocksLeft s index from to start end i) where
   module _ (l : i < end) (long : end ≤ length index) {p : ℕ} (e : p ≡ get_or index i 0) where
     pub block-well : Well limit (entry blocks) s p
     block-well = (words-all (Well limit (entry blocks) s) index end i l long e h.well).0
 
-    module _ {x : ℕ} (j : x ≡ block_answer (classes_at s index from to) (value_at (entry blocks) s p)) where
-      parted : map (block_answer (classes_at s index from to)) (map (value_at (entry blocks) s) (span index i end))
-          ≡ x ∷ map (block_answer (classes_at s index from to)) (map (value_at (entry blocks) s) (span index (i + 1) end))
-      parted = ap (map (block_answer (classes_at s index from to))) (words-next (value_at (entry blocks) s) index end i l long e) ∙ rw j
+    module _ {r : Result Unit Question} (j : r ≡ said (block_answer (classes_at s index from to) (value_at (entry blocks) s p))) where
+      abbrev answer : ℕ
+      answer = block_answer (classes_at s index from to) (value_at (entry blocks) s p)
 
-      pub blocks-next : x ≡ 0 → BlocksLeft s index from to end (i + 1)
-      blocks-next z = record { well = (words-all (Well limit (entry blocks) s) index end i l long e h.well).1; is = first_next parted h.is z }
+      abbrev rest : List ℕ
+      rest = map (block_answer (classes_at s index from to)) (map (value_at (entry blocks) s) (span index (i + 1) end))
 
-      pub blocks-no : (x ≡ 0 → ⊥) → x ≡ answers_from s index from to end to
-      blocks-no n = first-no parted h.is n
+      parted : first (answer ∷ rest) ≡ answers_from s index from to end start
+      parted = sym (ap (λ l. first (map (block_answer (classes_at s index from to)) l)) (words-next (value_at (entry blocks) s) index end i l long e)) ∙ h.is
 
-  pub blocks_end : end ≤ i → 0 ≡ answers_from s index from to end to
-  blocks_end l = first-end (ap (map (block_answer (classes_at s index from to))) (words-end (value_at (entry blocks) s) index end i l)) h.is
+      pub blocks-next : r ≡ Ok tt → BlocksLeft s index from to start end (i + 1)
+      blocks-next y = record {
+        well = (words-all (Well limit (entry blocks) s) index end i l long e h.well).1;
+        is = sym (said-yes answer rest (sym j ∙ y)) ∙ parted;
+      }
+
+      pub blocks-no : {d : Question} → r ≡ Err d → Err d ≡ said (answers_from s index from to end start)
+      blocks-no n = sym (said-no answer rest (sym j ∙ n)) ∙ ap said parted
+
+  pub blocks_end : end ≤ i → Ok tt ≡ said (answers_from s index from to end start)
+  unfolding first
+  blocks_end l = ap said (sym (ap (λ l. first (map (block_answer (classes_at s index from to)) l)) (words-end (value_at (entry blocks) s) index end i l)) ∙ h.is)

@@ -2,7 +2,7 @@
 use Prim.Native.Nat.{ℕ, ◌+◌, min}
 use native.Mathlib.Omega.{arith}
 use mathlib.Core.Path.{◌≡◌, refl, sym, ◌∙◌}
-use mathlib.Core.Bool.{Bool, true, false, cond, not, ◌&&◌}
+use mathlib.Core.Bool.{Bool, true, false, cond, not, beq, ◌&&◌}
 use mathlib.Core.List.{List, ◌++◌}
 use lib.ListN.{length, get_or}
 use lib.Dec.{eqb, ltb}
@@ -20,6 +20,20 @@ use Rattle.questions.specs.Declarations.{has_member, is_stateful, kind_holds, po
 use Rattle.state_layout.proofs.Tables.{limit}
 use Rattle.state_layout.proofs.Choosing.{typed, typed-class, value-class}
 use Rattle.state_declarations.specs.Each.{class_at}
+
+agrees : (t n m : Bool) → beq (not n) t ≡ true → cond t (not n && not m) (n && m) ≡ beq (not m) t
+agrees true true m h = cc
+agrees true false true h = refl
+agrees true false false h = refl
+agrees false true true h = refl
+agrees false true false h = refl
+agrees false false m h = cc
+
+differs : (t n m : Bool) → beq (not n) t ≡ false → cond t (not n && not m) (n && m) ≡ false
+differs true true m h = refl
+differs true false m h = cc
+differs false true m h = cc
+differs false false m h = refl
 
 module _ (s : List ℕ) where
   -- ---- classes of values and of value types
@@ -50,17 +64,12 @@ module _ (s : List ℕ) where
     unfolding kind_holds is_stateful kind state_revision state_len block_rest block_head value_at past
     kind-is = rw (et, en, el, er, ek)
 
-    pub stateful-none : t ≡ 1 → n ≡ 0 → false ≡ kind_holds (value_at (entry blocks) s at)
-    stateful-none h i = sym (kind-is ∙ rw (eq-eqb t 1 h, eq-eqb n 0 i))
+    -- the revision agrees with the kind, or not
+    pub kind-agrees : {m : ℕ} → m ≡ number_at 8 s l → beq (not (eqb n 0)) (eqb t 1) ≡ true → beq (not (eqb m 0)) (eqb t 1) ≡ kind_holds (value_at (entry blocks) s at)
+    kind-agrees {m} em h = sym (kind-is ∙ rw (← em) (agrees (eqb t 1) (eqb n 0) (eqb m 0) h))
 
-    pub stateful : t ≡ 1 → (n ≡ 0 → ⊥) → {m : ℕ} → m ≡ number_at 8 s l → not (eqb m 0) ≡ kind_holds (value_at (entry blocks) s at)
-    stateful h i j = sym (kind-is ∙ rw (eq-eqb t 1 h, ne_eqb n 0 i, ← j))
-
-    pub algebraic-some : (t ≡ 1 → ⊥) → (n ≡ 0 → ⊥) → false ≡ kind_holds (value_at (entry blocks) s at)
-    algebraic-some h i = sym (kind-is ∙ rw (ne_eqb t 1 h, ne_eqb n 0 i))
-
-    pub algebraic : (t ≡ 1 → ⊥) → n ≡ 0 → {m : ℕ} → m ≡ number_at 8 s l → eqb m 0 ≡ kind_holds (value_at (entry blocks) s at)
-    algebraic h i j = sym (kind-is ∙ rw (ne_eqb t 1 h, eq-eqb n 0 i, ← j))
+    pub kind-differs : beq (not (eqb n 0)) (eqb t 1) ≡ false → beq (not (eqb n 0)) (eqb t 1) ≡ kind_holds (value_at (entry blocks) s at)
+    kind-differs h = h ∙ sym (kind-is ∙ differs (eqb t 1) (eqb n 0) (eqb (number_at 8 s l) 0) h)
 
   pub key-at : (at : ℕ) → block_key_of (value_at (entry blocks) s at) ≡ value_at block_key s at
   unfolding block_key_of value_at
@@ -112,7 +121,7 @@ module _ (s : List ℕ) where
     port-owner h = sym (port-is ∙ rw h)
 
     module _ (h : b ≡ true) {t : ℕ} (et : t ≡ get_or s end 0) where
-      pub port-way : (t ≡ way → ⊥) → false ≡ holds
+      pub port-way : (t ≡ way → ⊥) → eqb t way ≡ holds
       port-way i = sym (port-is ∙ rw (h, ← et, ne_eqb t way i))
 
       pub port-place : t ≡ way → {p n : ℕ} → p ≡ min (end + 1) (length s) → n ≡ number_at 4 s p → eqb n place ≡ holds

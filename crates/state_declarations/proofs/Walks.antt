@@ -1,8 +1,8 @@
 -- Entries one after the other: in bytes, behind a count, and by the words of an index.
-use Prim.Native.Nat.{ℕ, zero, suc, ◌+◌, ◌-◌, ◌≤◌, ◌<◌, min}
+use Prim.Native.Nat.{ℕ, suc, ◌+◌, ◌-◌, ◌≤◌, ◌<◌, min}
 use native.Mathlib.Omega.{arith}
 use native.Mathlib.Nat.{min-eq_left}
-use mathlib.Core.Path.{◌≡◌, refl, sym, ap, ◌∙◌, subst}
+use mathlib.Core.Path.{◌≡◌, sym, ap, ◌∙◌, subst}
 use mathlib.Core.List.{List, [], ◌∷◌, map}
 use lib.ListN.{length, get_or}
 use Rattle.state.specs.Bytes.{span}
@@ -22,17 +22,17 @@ module _ (k r : Fmt) (s : List ℕ) where
   abbrev pub entries_at : (n p : ℕ) → List (El k × El r)
   entries_at n p = values_at (value_at k s) (value_at r s) (past k s) (past r s) n p
 
-  entries-start : (w least : ℕ) (u : Rule) (at : ℕ) {n p : ℕ} → n ≡ number_at w s at → p ≡ min (at + w) (length s) → value_at (list w least u k r) s at ≡ entries_at n p
+  -- none of them passed
+  entries-start : (w least : ℕ) (u : Rule) (at : ℕ) {n p : ℕ} → n ≡ number_at w s at → p ≡ min (at + w) (length s) → value_at (list w least u k r) s at ≡ entries_at (n - 0) p
   unfolding value_at
-  entries-start w least u at i j = rw (i, j)
+  entries-start w least u at {n} i j = let z : n - 0 ≡ n = omega arith in rw (z, i, j)
 
-  pub entries_next : (n p : ℕ) → 0 < n → {m e : ℕ} → m ≡ past k s p → e ≡ past r s m → entries_at n p ≡ (value_at k s p, value_at r s m) ∷ entries_at (n - 1) e
-  entries_next zero p l i j = absurd (omega arith)
-  entries_next (suc n) p l i j = let d : suc n - 1 ≡ n = omega arith in rw (d, j, i)
+  -- i passed: one more, or no more
+  pub entries_next : (n i p : ℕ) → i < n → {m e : ℕ} → m ≡ past k s p → e ≡ past r s m → entries_at (n - i) p ≡ (value_at k s p, value_at r s m) ∷ entries_at (n - (i + 1)) e
+  entries_next n i p l a b = let d : n - i ≡ suc (n - (i + 1)) = omega arith in rw (d, b, a)
 
-  pub entries-end : (n p : ℕ) → n ≤ 0 → entries_at n p ≡ []
-  entries-end zero p l = refl
-  entries-end (suc n) p l = absurd (omega arith)
+  pub entries-end : (n i p : ℕ) → n ≤ i → entries_at (n - i) p ≡ []
+  entries-end n i p l = let d : n - i ≡ 0 = omega arith in rw d
 
 -- ports
 unfoldable pub ports_at : List ℕ → (n p : ℕ) → El connector_keys
@@ -43,17 +43,19 @@ module _ (s : List ℕ) where
   abbrev pub PortsWell : (n p : ℕ) → Type 0
   PortsWell n p = WellEach limit (connector_key then done) s n p
 
-  pub ports-list : (at : ℕ) {n p : ℕ} → Well limit connector_keys s at → n ≡ number_at 4 s at → p ≡ min (at + 4) (length s) → PortsWell n p × (ports_at s n p ≡ value_at connector_keys s at)
+  pub ports-list : (at : ℕ) {n p : ℕ} → Well limit connector_keys s at → n ≡ number_at 4 s at → p ≡ min (at + 4) (length s) → PortsWell (n - 0) p × (ports_at s (n - 0) p ≡ value_at connector_keys s at)
   unfolding connector_keys ports_at
   ports-list at {n} {p} w i j =
       let l = well-list limit s free connector_key done 4 10 at w in
       let e : p ≡ at + 4 = j ∙ min-eq_left l.0 in
-      (rw (i, e) l.1, sym (entries-start connector_key done s 4 10 free at i j))
+      let z : n - 0 ≡ n = omega arith in
+      (rw (z, i, e) l.1, sym (entries-start connector_key done s 4 10 free at i j))
 
-  pub ports-each : (n p : ℕ) → 0 < n → PortsWell n p → Well limit connector_key s p × PortsWell (n - 1) (past connector_key s p)
+  pub ports-each : (n i p : ℕ) → i < n → PortsWell (n - i) p → Well limit connector_key s p × PortsWell (n - (i + 1)) (past connector_key s p)
   unfolding past
-  ports-each zero p l w = absurd (omega arith)
-  ports-each (suc n) p l w = let d : suc n - 1 ≡ n = omega arith in ((well-then limit s connector_key done p w.0).0, rw d w.1)
+  ports-each n i p l w =
+      let d : n - i ≡ suc (n - (i + 1)) = omega arith in
+      let v = rw d at w in ((well-then limit s connector_key done p v.0).0, v.1)
 
 -- ---- by the words of an index
 module _ {A : Type 0} (f : ℕ → A) (index : List ℕ) (to : ℕ) where

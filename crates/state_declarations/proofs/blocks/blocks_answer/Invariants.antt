@@ -1,9 +1,5 @@
 use Rattle.state_declarations.proofs.Holds.{BlocksLeft}
-use Prim.Native.Nat.{◌-◌}
 use Rattle.state_declarations.proofs.blocks.blocks_answer.Given as goal
 
 abbrev pub invariant-loop-i : goal.invariant-loop-i
-invariant-loop-i l = BlocksLeft l.s l.index l.from l.to l.end l.i
-
-abbrev pub decreases-loop-i : goal.decreases-loop-i
-decreases-loop-i l = l.end - l.i
+invariant-loop-i l = BlocksLeft l.s l.index l.classes.from l.classes.to l.fn.blocks.from l.i-end l.i

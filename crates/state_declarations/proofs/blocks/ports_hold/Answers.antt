@@ -4,7 +4,7 @@ use Rattle.state_declarations.proofs.blocks.ports_hold.Goals as goal
 
 pub loop-i-init : goal.loop-i-init
 loop-i-init c =
-    ports-start c.args.s.now _ _ c.args.at c.requires.well_keys c.count_at-count.ensures c.ahead-p.ensures
+    ports-start c.args.s.now _ _ c.args.at c.requires.well_keys c.count_at-i-end.ensures c.ahead-p.ensures
 
 pub port_holds-requires : goal.port_holds-requires
 port_holds-requires c =

@@ -11,4 +11,4 @@ mark-requires c = c.requires
 
 pub returns : goal.returns
 returns c =
-    class-one _ c.byte_at.ensures c.if-byte_at-ne-ENUM.false c.ahead.ensures c.text_part.ensures c.mark.ensures
+    class-one _ c.byte_at.ensures c.if-byte_at-ne-ENUM.false c.ahead.ensures c.text_part-path.ensures c.mark.ensures
