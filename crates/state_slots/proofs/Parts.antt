@@ -1,14 +1,12 @@
 -- The fields of blocks and slots, where they stand.
-use Prim.Native.Nat.{ℕ, ◌+◌, ◌-◌, ◌^◌, ◌≤◌, ◌<◌, min}
-use native.Mathlib.Omega.{arith}
+use Prim.Native.Nat.{ℕ, ◌+◌, ◌^◌, ◌≤◌, ◌<◌, min}
 use mathlib.Core.Path.{◌≡◌, refl}
 use mathlib.Core.Bool.{Bool, true, false}
 use mathlib.Core.List.{List}
 use lib.ListN.{length, get_or}
 use lib.Dec.{eqb}
 use borrow.Author.Tests.{eq-eqb, ne_eqb, lt-ltb, le-ltb}
-use Rattle.std.specs.Prelude.{Result, Ok, Err}
-use Rattle.state.specs.declared.Question.{Question}
+use Rattle.std.specs.Prelude.{Ok, Err}
 use Rattle.state.specs.Outcome.{said}
 use Rattle.format.specs.Lists.{same}
 use Rattle.format.specs.Format.{text}

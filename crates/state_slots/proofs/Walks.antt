@@ -157,3 +157,6 @@ module _ (s : List ℕ) (bs es : List ℕ) where
 
   pub words-asked : pairwise (words_asked s) bs es ≡ pairwise pair_answer (map (block_at s) bs) (map (slot_at s) es)
   words-asked = pairwise-map pair_answer (block_at s) (slot_at s) bs es
+
+-- for `for_pairs`
+pub ruleset walk = (walk-over, walk-block, walk-slot, walk-here, walk-on)

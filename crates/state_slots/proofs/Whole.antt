@@ -1,5 +1,5 @@
 -- The answers of the walks are those of the questions, of a manifest that was read and whose declarations hold.
-use Prim.Native.Nat.{ℕ, ◌+◌, ◌-◌, ◌≤◌, ◌<◌}
+use Prim.Native.Nat.{ℕ, ◌≤◌, ◌<◌}
 use native.Mathlib.Omega.{arith}
 use mathlib.Core.Path.{◌≡◌, sym, ap, ◌∙◌, subst}
 use mathlib.Core.Bool.{Bool, true, false}
@@ -23,9 +23,8 @@ use Rattle.questions.proofs.Kept.{all_so, all_of_map, keep_all}
 use Rattle.questions.proofs.Ascends.{Ascends, ascends, keep-ascends}
 use Rattle.questions.proofs.Named.{block_name, Alone, each-alone}
 use Rattle.state_index.specs.declared.Table.{Table as Place}
-use Rattle.state_index.specs.Sort.{Kept}
-use Rattle.state_layout.specs.Tables.{manifest_of, table_at, room_start, Tabled, Table, Leaves}
-use Rattle.state_layout.proofs.Indexed.{table-blocks, table-slots, rows, room, start-there, leaves_all, tabled-kept}
+use Rattle.state_layout.specs.Tables.{manifest_of, table_at, room_start, Tabled, Table}
+use Rattle.state_layout.proofs.Indexed.{table-blocks, table-slots, rows, room, start-there}
 use Rattle.state_layout.proofs.Names.{keys-are, names-blocks}
 use Rattle.state_slots.specs.Walk.{block_at, slot_at, stateful_of, same_lists, keys_agree, pairwise, pair_answer, key_asked, words_asked, Held, Room}
 use Rattle.state_slots.proofs.Lists.{keep-map, keep-alike}
@@ -154,10 +153,6 @@ module _ {s index : List ℕ} (t : Tabled s index) {b e : Place} (eb : b ≡ tab
             pub all_asked : c ≡ true → Ok tt ≡ said (first (slots (manifest_of s)))
             unfolding ◌unless◌
             all_asked h = rw (← covered, h)
-
-  module _ {top : ℕ} (eu : top ≡ room_start s) {new : List ℕ} (k : Kept top (top + (e.to - e.from) + (e.to - e.from)) index new) where
-    pub left : Leaves s index new
-    left = tabled-kept top (top + (e.to - e.from) + (e.to - e.from)) t k (omega arith)
 
 -- for `validate_slots`
 pub ruleset asked = (within, asked-21, cover-room, cover-held)

@@ -51,6 +51,7 @@ fn next_stateful(s: &[u8], index: &[u32], from: usize, to: usize) -> Option<usiz
 }
 
 // Asks each stateful block with its slot, in order: yes to all, or the first no; 21 where a block or a slot is left alone.
+#[tactic(auto, using(crate::proofs::Walks::walk))]
 fn for_pairs<F: Fn(usize, usize) -> Result<(), Question>>(
     s: &[u8],
     index: &[u32],
@@ -93,7 +94,13 @@ fn slot_keys_are(s: &[u8], index: &[u32], blocks: Table, slots: Table) -> Result
     requires { (blocks.to ≤ length index.now) × (slots.to ≤ length index.now) }
     ensures { result ≡ said (pairwise (key_asked s.now) (stateful_of s.now index.now blocks.from blocks.to) (span index.now slots.from slots.to)) }
 {
-    for_pairs(s, index, blocks, slots, |block, slot| key_answer(s, block, slot))
+    for_pairs(
+        s,
+        index,
+        blocks,
+        slots,
+        |block, slot| key_answer(s, block, slot),
+    )
 }
 
 // Questions 22 and 23 of the slot of a block.
@@ -118,10 +125,17 @@ fn slot_answers(s: &[u8], index: &[u32], blocks: Table, slots: Table) -> Result<
     requires { (blocks.to ≤ length index.now) × (slots.to ≤ length index.now) }
     ensures { result ≡ said (pairwise (words_asked s.now) (stateful_of s.now index.now blocks.from blocks.to) (span index.now slots.from slots.to)) }
 {
-    for_pairs(s, index, blocks, slots, |block, slot| slot_answer(s, block, slot))
+    for_pairs(
+        s,
+        index,
+        blocks,
+        slots,
+        |block, slot| slot_answer(s, block, slot),
+    )
 }
 
 // Puts the positions of the slots' offsets into the words from `room` on.
+#[tactic(auto, using(crate::proofs::Offsets::gathering))]
 fn gather_offsets(s: &[u8], index: &mut [u32], slots: Table, room: usize)
     requires { Room s.now index.old slots.from slots.to room }
     ensures { index.new ≡ sets index.old room (map (past block_key s.now) (span index.old slots.from slots.to)) }
@@ -132,6 +146,7 @@ fn gather_offsets(s: &[u8], index: &mut [u32], slots: Table, room: usize)
 }
 
 // Does each of the slots whose offsets stand at these positions start where the one before it ends, the first at 0?
+#[tactic(auto, using(crate::proofs::Offsets::chain))]
 fn slots_join(s: &[u8], offsets: &[u32]) -> bool
     requires { All (λ p. Ends (words_at s.now p)) offsets.now }
     ensures { result ≡ join_from 0 (map (words_at s.now) offsets.now) }
@@ -149,6 +164,7 @@ fn slots_join(s: &[u8], offsets: &[u32]) -> bool
 }
 
 // Question 24: sorted by offset, the slots start at 0 and join. The words from `room` on are scratch, two for each slot.
+#[tactic(auto, using(crate::proofs::Offsets::sorted))]
 fn slots_cover(s: &[u8], index: &mut [u32], slots: Table, room: usize) -> bool
     requires room { Room s.now index.old slots.from slots.to room }
     requires all { All (λ p. Held (slot_at s.now p)) (span index.old slots.from slots.to) }
