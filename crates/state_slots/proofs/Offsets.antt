@@ -152,3 +152,10 @@ module _ {s old : List ℕ} {from to room : ℕ} (r : Room s old from to room) (
       back = o.back ∙ ap (drop (room + (to - from) + (to - from))) e ∙ drop-sets (room + (to - from) + (to - from)) room offsets old (omega (arith, many));
       long = l;
     }
+
+-- for `gather_offsets`, `slots_join` and `slots_cover`
+pub ruleset gathering = (key-within, gather-start, gather-end)
+
+pub ruleset chain = (chain-no, chain-small, chain-end)
+
+pub ruleset sorted = (sorted-ends)

@@ -1,14 +1,12 @@
 -- The fields of blocks and slots, where they stand.
-use Prim.Native.Nat.{ℕ, ◌+◌, ◌-◌, ◌^◌, ◌≤◌, ◌<◌, min}
-use native.Mathlib.Omega.{arith}
+use Prim.Native.Nat.{ℕ, ◌+◌, ◌^◌, ◌≤◌, ◌<◌, min}
 use mathlib.Core.Path.{◌≡◌, refl}
 use mathlib.Core.Bool.{Bool, true, false}
 use mathlib.Core.List.{List}
 use lib.ListN.{length, get_or}
 use lib.Dec.{eqb}
 use borrow.Author.Tests.{eq-eqb, ne_eqb, lt-ltb, le-ltb}
-use Rattle.std.specs.Prelude.{Result, Ok, Err}
-use Rattle.state.specs.declared.Question.{Question}
+use Rattle.std.specs.Prelude.{Ok, Err}
 use Rattle.state.specs.Outcome.{said}
 use Rattle.format.specs.Lists.{same}
 use Rattle.format.specs.Format.{text}
@@ -24,9 +22,9 @@ use Rattle.state_slots.specs.Walk.{block_at, slot_at, pair_answer, words_at}
 
 module _ (s : List ℕ) (p : ℕ) where
   module _ {k : ℕ} (e : k ≡ past text s (past block_key s p)) where
-    pub stateful-at : {b : ℕ} → b ≡ get_or s k 0 → eqb b 1 ≡ is_stateful (block_at s p)
+    pub stateful_at : {b : ℕ} → b ≡ get_or s k 0 → eqb b 1 ≡ is_stateful (block_at s p)
     unfolding is_stateful kind value_at past block_rest block_head
-    stateful-at f = rw (f, e)
+    stateful_at f = rw (f, e)
 
     pub length_at : {a b n : ℕ} → a ≡ min (k + 1) (length s) → b ≡ min (a + 4) (length s) → n ≡ number_at 8 s b → n ≡ state_len (block_at s p)
     unfolding state_len value_at past block_rest block_head
@@ -65,9 +63,9 @@ module _ (s : List ℕ) (block slot : ℕ) {a o b n m : ℕ} (ea : a ≡ past bl
   unfolding pair_answer first ◌unless◌
   other_length h = rw (holds, ← em, ne_eqb n m h)
 
-  pub ends-late : n ≡ m → 2 ^ 64 ≤ o + n → Err (record { 0 = 23 }) ≡ said (pair_answer (block_at s block) (slot_at s slot))
+  pub ends_late : n ≡ m → 2 ^ 64 ≤ o + n → Err (record { 0 = 23 }) ≡ said (pair_answer (block_at s block) (slot_at s slot))
   unfolding pair_answer first ◌unless◌ end_fits
-  ends-late h l = rw (starts, holds, ← em, eq-eqb n m h, le-ltb (o + n) (2 ^ 64) l)
+  ends_late h l = rw (starts, holds, ← em, eq-eqb n m h, le-ltb (o + n) (2 ^ 64) l)
 
   pub both_hold : n ≡ m → o + n < 2 ^ 64 → Ok tt ≡ said (pair_answer (block_at s block) (slot_at s slot))
   unfolding pair_answer first ◌unless◌ end_fits

@@ -20,7 +20,7 @@ use Rattle.format.specs.Places.{key_at}
 use Rattle.questions.specs.Sets.{keep, ◌unless◌, first}
 use Rattle.questions.specs.Declarations.{is_stateful}
 use Rattle.questions.proofs.Chains.{none-says-no, first_one}
-use Rattle.state_slots.specs.Walk.{block_at, slot_at, stateful_of, NextStateful, pairwise, same_lists, keys_agree, pair_answer, answers_at}
+use Rattle.state_slots.specs.Walk.{block_at, slot_at, stateful_of, NextStateful, pairwise, same_lists, keys_agree, pair_answer, key_asked, words_asked}
 use Rattle.state_slots.proofs.Said.{said-no, said-none}
 
 -- ---- the next stateful block
@@ -152,8 +152,11 @@ pairwise-same (k ∷ ks) (l ∷ ls) = go (same l k) (pairwise-same ks ls)
     go false h = refl
 
 module _ (s : List ℕ) (bs es : List ℕ) where
-  pub pairs-agree : pairwise (λ b e. 21 unless (same (key_at state_slots s e) (key_at blocks s b))) bs es ≡ 21 unless (keys_agree s bs es)
-  pairs-agree = pairwise-map (λ k l. 21 unless (same l k)) (key_at blocks s) (key_at state_slots s) bs es ∙ pairwise-same (map (key_at blocks s) bs) (map (key_at state_slots s) es)
+  pub keys-asked : pairwise (key_asked s) bs es ≡ 21 unless (keys_agree s bs es)
+  keys-asked = pairwise-map (λ k l. 21 unless (same l k)) (key_at blocks s) (key_at state_slots s) bs es ∙ pairwise-same (map (key_at blocks s) bs) (map (key_at state_slots s) es)
 
-  pub pairs-answer : pairwise (λ b e. pair_answer (block_at s b) (slot_at s e)) bs es ≡ answers_at s bs es
-  pairs-answer = pairwise-map pair_answer (block_at s) (slot_at s) bs es
+  pub words-asked : pairwise (words_asked s) bs es ≡ pairwise pair_answer (map (block_at s) bs) (map (slot_at s) es)
+  words-asked = pairwise-map pair_answer (block_at s) (slot_at s) bs es
+
+-- for `for_pairs`
+pub ruleset walk = (walk-over, walk-block, walk-slot, walk-here, walk-on)

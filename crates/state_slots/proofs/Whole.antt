@@ -1,5 +1,5 @@
 -- The answers of the walks are those of the questions, of a manifest that was read and whose declarations hold.
-use Prim.Native.Nat.{ℕ, ◌+◌, ◌-◌, ◌≤◌, ◌<◌}
+use Prim.Native.Nat.{ℕ, ◌≤◌, ◌<◌}
 use native.Mathlib.Omega.{arith}
 use mathlib.Core.Path.{◌≡◌, sym, ap, ◌∙◌, subst}
 use mathlib.Core.Bool.{Bool, true, false}
@@ -23,14 +23,14 @@ use Rattle.questions.proofs.Kept.{all_so, all_of_map, keep_all}
 use Rattle.questions.proofs.Ascends.{Ascends, ascends, keep-ascends}
 use Rattle.questions.proofs.Named.{block_name, Alone, each-alone}
 use Rattle.state_index.specs.declared.Table.{Table as Place}
-use Rattle.state_index.specs.Sort.{Kept}
-use Rattle.state_layout.specs.Tables.{manifest_of, table_at, room_start, Tabled, Table, Leaves}
-use Rattle.state_layout.proofs.Indexed.{table-blocks, table-slots, rows, room, start-there, leaves_all, tabled-kept}
+use Rattle.state_layout.specs.Tables.{manifest_of, table_at, room_start, Tabled, Table}
+use Rattle.state_layout.proofs.Indexed.{table-blocks, table-slots, rows, room, start-there}
 use Rattle.state_layout.proofs.Names.{keys-are, names-blocks}
-use Rattle.state_slots.specs.Walk.{block_at, slot_at, stateful_of, same_lists, keys_agree, pairwise, pair_answer, answers_at, Held, Room}
+use Rattle.state_slots.specs.Walk.{block_at, slot_at, stateful_of, same_lists, keys_agree, pairwise, pair_answer, key_asked, words_asked, Held, Room}
 use Rattle.state_slots.proofs.Lists.{keep-map, keep-alike}
 use Rattle.state_slots.proofs.Agree.{lists-same, same_set-lists}
 use Rattle.state_slots.proofs.Said.{said-no, said-none, said-yes}
+use Rattle.state_slots.proofs.Walks.{keys-asked, words-asked}
 use Rattle.state_slots.proofs.Answers.{blocks-some, slot-answers, pairs-none}
 
 module _ {s index : List ℕ} (t : Tabled s index) {b e : Place} (eb : b ≡ table_at 3 (manifest_of s)) (ee : e ≡ table_at 9 (manifest_of s)) where
@@ -86,11 +86,11 @@ module _ {s index : List ℕ} (t : Tabled s index) {b e : Place} (eb : b ≡ tab
   agreed : keys_agree s stateful slots_words ≡ same_lists (map slot_name ss) (map block_name (keep is_stateful bs))
   agreed = rw (slot-keys, stateful-keys)
 
-  keys-answer : 21 unless (keys_agree s stateful slots_words) ≡ 21 unless (slot_keys_are ss bs)
+  keys-answer : pairwise (key_asked s) stateful slots_words ≡ 21 unless (slot_keys_are ss bs)
   unfolding slot_keys_are block_names
-  keys-answer = ap (◌unless◌ 21) (agreed ∙ same_set-lists (map slot_name ss) (map block_name (keep is_stateful bs)) slots-ascend (keep-ascends block_name is_stateful bs blocks-ascend))
+  keys-answer = keys-asked s stateful slots_words ∙ ap (◌unless◌ 21) (agreed ∙ same_set-lists (map slot_name ss) (map block_name (keep is_stateful bs)) slots-ascend (keep-ascends block_name is_stateful bs blocks-ascend))
 
-  module _ {r : Result Unit Question} (er : r ≡ said (21 unless (keys_agree s stateful slots_words))) where
+  module _ {r : Result Unit Question} (er : r ≡ said (pairwise (key_asked s) stateful slots_words)) where
     pub asked-21 : {q : Question} → r ≡ Err q → Err q ≡ said (first (slots (manifest_of s)))
     unfolding slots
     asked-21 h = said-no _ (er ∙ ap said keys-answer) h _
@@ -98,12 +98,12 @@ module _ {s index : List ℕ} (t : Tabled s index) {b e : Place} (eb : b ≡ tab
     -- ---- 22 and 23
     module _ {u : Unit} (h : r ≡ Ok u) where
       names : map slot_name ss ≡ map block_name (keep is_stateful bs)
-      names = lists-same (map slot_name ss) (map block_name (keep is_stateful bs)) (sym agreed ∙ unless-none 20 _ (said-none _ er h))
+      names = lists-same (map slot_name ss) (map block_name (keep is_stateful bs)) (sym agreed ∙ unless-none 20 _ (sym (keys-asked s stateful slots_words) ∙ said-none _ er h))
 
-      paired : answers_at s stateful slots_words ≡ pairwise pair_answer (keep is_stateful bs) ss
-      paired = rw (stateful-values, of_slots.values)
+      paired : pairwise (words_asked s) stateful slots_words ≡ pairwise pair_answer (keep is_stateful bs) ss
+      paired = words-asked s stateful slots_words ∙ rw (stateful-values, of_slots.values)
 
-      slots-answer : answers_at s stateful slots_words ≡ first (map (slot_answer bs) ss)
+      slots-answer : pairwise (words_asked s) stateful slots_words ≡ first (map (slot_answer bs) ss)
       slots-answer =
           paired
           ∙ sym (slot-answers bs (keep is_stateful bs) ss (all_so (λ b h. h.0) (keep is_stateful bs) (keep_all is_stateful (Alone block_name bs) bs (each-alone block_name bs blocks-ascend))) names)
@@ -111,7 +111,7 @@ module _ {s index : List ℕ} (t : Tabled s index) {b e : Place} (eb : b ≡ tab
       to_slots : (qs : List ℕ) → first (first (map (slot_answer bs) ss) ∷ qs) ≡ first (21 unless (slot_keys_are ss bs) ∷ first (map (slot_answer bs) ss) ∷ qs)
       to_slots qs = said-yes _ (er ∙ ap said keys-answer) h (first (map (slot_answer bs) ss) ∷ qs)
 
-      module _ {r' : Result Unit Question} (er' : r' ≡ said (answers_at s stateful slots_words)) where
+      module _ {r' : Result Unit Question} (er' : r' ≡ said (pairwise (words_asked s) stateful slots_words)) where
         pub asked-22 : {q : Question} → r' ≡ Err q → Err q ≡ said (first (slots (manifest_of s)))
         unfolding slots
         asked-22 k = said-no _ (er' ∙ ap said slots-answer) k _ ∙ ap said (to_slots _)
@@ -127,31 +127,32 @@ module _ {s index : List ℕ} (t : Tabled s index) {b e : Place} (eb : b ≡ tab
                 pairs-none (keep is_stateful bs) ss names (sym paired ∙ said-none _ er' h')
                 (all_so (λ b h. h.0 h.1) (keep is_stateful bs) (keep_all is_stateful (λ b. is_stateful b ≡ true → 0 < state_len b) bs (blocks-some (manifest_of s) d)))
 
-            pub cover-room : Room s index e.from e.to top × All (λ p. Held (slot_at s p)) slots_words
+            pub cover-room : Room s index e.from e.to top
             cover-room =
                 let w = rows (manifest_of s) in
                 let l = room t in
                 let f = ap (λ (x : Place). x.from) ee in
-                let g = ap (λ (x : Place). x.to) ee in (
-                  record { forward = omega arith; below = omega arith; fits = omega arith; short = omega (arith, t.short) },
-                  all_of_map (slot_at s) Held slots_words (subst (All Held) (sym of_slots.values) all_held),
-                )
+                let g = ap (λ (x : Place). x.to) ee in
+                record { forward = omega arith; below = omega arith; fits = omega arith; short = omega (arith, t.short) }
 
-            module _ {c : Bool} {new : List ℕ} (ec : c ≡ join_from 0 (by_offset (map (λ p. words (slot_at s p)) slots_words))) (k : Kept top (top + (e.to - e.from) + (e.to - e.from)) index new) where
-              joined : c ≡ join_from 0 (by_offset (map words ss))
-              joined = ec ∙ ap (λ l. join_from 0 (by_offset l)) (sym (map-map words (slot_at s) slots_words) ∙ ap (map words) of_slots.values)
+            pub cover-held : All (λ p. Held (slot_at s p)) slots_words
+            cover-held = all_of_map (slot_at s) Held slots_words (subst (All Held) (sym of_slots.values) all_held)
 
-              pub left : Leaves s index new
-              left = tabled-kept top (top + (e.to - e.from) + (e.to - e.from)) t k (omega arith)
+          module _ {c : Bool} (ec : c ≡ join_from 0 (by_offset (map (λ p. words (slot_at s p)) slots_words))) where
+            joined : c ≡ join_from 0 (by_offset (map words ss))
+            joined = ec ∙ ap (λ l. join_from 0 (by_offset l)) (sym (map-map words (slot_at s) slots_words) ∙ ap (map words) of_slots.values)
 
-              covered : 24 unless c ≡ first (slots (manifest_of s))
-              unfolding slots
-              covered = ap (◌unless◌ 24) joined ∙ to-cover _
+            covered : 24 unless c ≡ first (slots (manifest_of s))
+            unfolding slots
+            covered = ap (◌unless◌ 24) joined ∙ to-cover _
 
-              pub asked-24 : c ≡ false → Err (record { 0 = 24 }) ≡ said (first (slots (manifest_of s)))
-              unfolding ◌unless◌
-              asked-24 h = rw (← covered, h)
+            pub asked-24 : c ≡ false → Err (record { 0 = 24 }) ≡ said (first (slots (manifest_of s)))
+            unfolding ◌unless◌
+            asked-24 h = rw (← covered, h)
 
-              pub all_asked : c ≡ true → Ok tt ≡ said (first (slots (manifest_of s)))
-              unfolding ◌unless◌
-              all_asked h = rw (← covered, h)
+            pub all_asked : c ≡ true → Ok tt ≡ said (first (slots (manifest_of s)))
+            unfolding ◌unless◌
+            all_asked h = rw (← covered, h)
+
+-- for `validate_slots`
+pub ruleset asked = (within, asked-21, cover-room, cover-held)

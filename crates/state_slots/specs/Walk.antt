@@ -44,12 +44,16 @@ same_lists (k ∷ ks) (l ∷ ls) = same k l && same_lists ks ls
 abbrev pub keys_agree : List ℕ → (bs es : List ℕ) → Bool
 keys_agree s bs es = same_lists (map (key_at state_slots s) es) (map (key_at blocks s) bs)
 
--- 22 and 23 of a slot and its block, and of slots each with its block
+-- 22 and 23 of a slot and its block
 unfoldable pub pair_answer : Entry blocks → Entry state_slots → ℕ
 pair_answer b e = first (22 unless (eqb (slot_length e) (state_len b)) ∷ 23 unless (end_fits e) ∷ [])
 
-abbrev pub answers_at : List ℕ → (bs es : List ℕ) → ℕ
-answers_at s bs es = pairwise pair_answer (map (block_at s) bs) (map (slot_at s) es)
+-- what a block and a slot at positions are asked: 21, and 22 and 23
+abbrev pub key_asked : List ℕ → (block slot : ℕ) → ℕ
+key_asked s block slot = 21 unless (same (key_at state_slots s slot) (key_at blocks s block))
+
+abbrev pub words_asked : List ℕ → (block slot : ℕ) → ℕ
+words_asked s block slot = pair_answer (block_at s block) (slot_at s slot)
 
 -- the words of a slot whose offset stands at a position: the first, and how many
 abbrev pub words_at : List ℕ → ℕ → ℕ × ℕ

@@ -16,7 +16,7 @@ ghost use Rattle.questions.specs.Declarations.{is_stateful, declarations};
 ghost use Rattle.questions.specs.Slots.{words, by_offset, join_from, slots};
 ghost use Rattle.state_index.specs.Sort.{Kept};
 ghost use Rattle.state_layout.specs.Tables.{manifest_of, Tabled, Leaves};
-ghost use Rattle.state_slots.specs.Walk.{block_at, slot_at, stateful_of, NextStateful, pairwise, keys_agree, pair_answer, answers_at, words_at, Ends, Held, Room};
+ghost use Rattle.state_slots.specs.Walk.{block_at, slot_at, stateful_of, NextStateful, pairwise, key_asked, words_asked, words_at, Ends, Held, Room};
 
 use state::{BlockKind, Question, Section};
 use state_index::keys::{block_key_end, byte_at, number_at};
@@ -26,6 +26,7 @@ use state_layout::ends::block_kind_at;
 use state_layout::{table_at, table_start};
 
 // Is the block at a position stateful?
+#[tactic(auto, using(crate::proofs::Parts::stateful_at))]
 fn is_stateful(s: &[u8], block: usize) -> bool
     ensures { result ≡ is_stateful (block_at s.now block) }
 {
@@ -33,6 +34,7 @@ fn is_stateful(s: &[u8], block: usize) -> bool
 }
 
 // How many words its state has.
+#[tactic(auto, using(crate::proofs::Parts::length_at))]
 fn state_len(s: &[u8], block: usize) -> u64
     ensures { result ≡ state_len (block_at s.now block) }
 {
@@ -49,6 +51,7 @@ fn next_stateful(s: &[u8], index: &[u32], from: usize, to: usize) -> Option<usiz
 }
 
 // Asks each stateful block with its slot, in order: yes to all, or the first no; 21 where a block or a slot is left alone.
+#[tactic(auto, using(crate::proofs::Walks::walk))]
 fn for_pairs<F: Fn(usize, usize) -> Result<(), Question>>(
     s: &[u8],
     index: &[u32],
@@ -75,8 +78,9 @@ fn for_pairs<F: Fn(usize, usize) -> Result<(), Question>>(
 }
 
 // Question 21 of a block and its slot: does the slot name the block?
+#[tactic(auto, using(crate::proofs::Parts::other_key, crate::proofs::Parts::same_key))]
 fn key_answer(s: &[u8], block: usize, slot: usize) -> Result<(), Question>
-    ensures { result ≡ said (21 unless (same (key_at state_slots s.now slot) (key_at blocks s.now block))) }
+    ensures { result ≡ said (key_asked s.now block slot) }
 {
     let key = key_part(s, Section::STATE_SLOTS, slot);
     if !same_bytes(key, key_part(s, Section::BLOCKS, block)) {
@@ -88,7 +92,7 @@ fn key_answer(s: &[u8], block: usize, slot: usize) -> Result<(), Question>
 // Question 21: the slots' keys are those of the stateful blocks. Both stand in order.
 fn slot_keys_are(s: &[u8], index: &[u32], blocks: Table, slots: Table) -> Result<(), Question>
     requires { (blocks.to ≤ length index.now) × (slots.to ≤ length index.now) }
-    ensures { result ≡ said (21 unless (keys_agree s.now (stateful_of s.now index.now blocks.from blocks.to) (span index.now slots.from slots.to))) }
+    ensures { result ≡ said (pairwise (key_asked s.now) (stateful_of s.now index.now blocks.from blocks.to) (span index.now slots.from slots.to)) }
 {
     for_pairs(
         s,
@@ -100,8 +104,9 @@ fn slot_keys_are(s: &[u8], index: &[u32], blocks: Table, slots: Table) -> Result
 }
 
 // Questions 22 and 23 of the slot of a block.
+#[tactic(auto, using(crate::proofs::Parts::other_length, crate::proofs::Parts::ends_late, crate::proofs::Parts::both_hold))]
 fn slot_answer(s: &[u8], block: usize, slot: usize) -> Result<(), Question>
-    ensures { result ≡ said (pair_answer (block_at s.now block) (slot_at s.now slot)) }
+    ensures { result ≡ said (words_asked s.now block slot) }
 {
     let at = block_key_end(s, slot);
     let offset = number_at(s, at);
@@ -118,7 +123,7 @@ fn slot_answer(s: &[u8], block: usize, slot: usize) -> Result<(), Question>
 // Questions 22 and 23, slot by slot: the slots are those of the stateful blocks, in order.
 fn slot_answers(s: &[u8], index: &[u32], blocks: Table, slots: Table) -> Result<(), Question>
     requires { (blocks.to ≤ length index.now) × (slots.to ≤ length index.now) }
-    ensures { result ≡ said (answers_at s.now (stateful_of s.now index.now blocks.from blocks.to) (span index.now slots.from slots.to)) }
+    ensures { result ≡ said (pairwise (words_asked s.now) (stateful_of s.now index.now blocks.from blocks.to) (span index.now slots.from slots.to)) }
 {
     for_pairs(
         s,
@@ -130,6 +135,7 @@ fn slot_answers(s: &[u8], index: &[u32], blocks: Table, slots: Table) -> Result<
 }
 
 // Puts the positions of the slots' offsets into the words from `room` on.
+#[tactic(auto, using(crate::proofs::Offsets::gathering))]
 fn gather_offsets(s: &[u8], index: &mut [u32], slots: Table, room: usize)
     requires { Room s.now index.old slots.from slots.to room }
     ensures { index.new ≡ sets index.old room (map (past block_key s.now) (span index.old slots.from slots.to)) }
@@ -140,6 +146,7 @@ fn gather_offsets(s: &[u8], index: &mut [u32], slots: Table, room: usize)
 }
 
 // Does each of the slots whose offsets stand at these positions start where the one before it ends, the first at 0?
+#[tactic(auto, using(crate::proofs::Offsets::chain))]
 fn slots_join(s: &[u8], offsets: &[u32]) -> bool
     requires { All (λ p. Ends (words_at s.now p)) offsets.now }
     ensures { result ≡ join_from 0 (map (words_at s.now) offsets.now) }
@@ -157,6 +164,7 @@ fn slots_join(s: &[u8], offsets: &[u32]) -> bool
 }
 
 // Question 24: sorted by offset, the slots start at 0 and join. The words from `room` on are scratch, two for each slot.
+#[tactic(auto, using(crate::proofs::Offsets::sorted))]
 fn slots_cover(s: &[u8], index: &mut [u32], slots: Table, room: usize) -> bool
     requires room { Room s.now index.old slots.from slots.to room }
     requires all { All (λ p. Held (slot_at s.now p)) (span index.old slots.from slots.to) }
@@ -170,6 +178,7 @@ fn slots_cover(s: &[u8], index: &mut [u32], slots: Table, room: usize) -> bool
 }
 
 // Questions 21 to 24, after 11 to 16 said yes.
+#[tactic(auto, using(crate::proofs::Whole::asked))]
 pub fn validate_slots(s: &[u8], index: &mut [u32]) -> Result<(), Question>
     requires tabled { Tabled s.now index.old }
     requires declared { first (declarations (manifest_of s.now)) ≡ 0 }
