@@ -102,7 +102,7 @@ module _ {s old new : List ℕ} (revision : ℕ) {r : Stepped} (reads : Reads s 
       record {
         is = e ∙ rw o;
         tabled = λ n i. cc (sym e ∙ i);
-        untouched = λ p i. reads.untouched p i;
+        untouched = λ p i. reads.untouched 2 p i (omega arith);
         long = reads.long;
       }
 
@@ -116,7 +116,7 @@ module _ {s old new : List ℕ} (revision : ℕ) {r : Stepped} (reads : Reads s 
     judge-no {d = d} asks = record {
       is = rw judge-is (ap (λ (x : ℕ). Err (refusal x n)) (sym no.0) ∙ heed-no (first_failing target_bound_classes revision (manifest_of s)) n _ no.1);
       tabled = λ k i. cc;
-      untouched = λ x i. let z : d.0 ≡ 2 = cc i in absurd (omega (arith, z, late, no.0));
+      untouched = λ x i. let j : record { question = d; at = n } ≡ refusal 2 x = cc i in let z : d.0 ≡ 2 = ap (λ (y : Refusal ℕ). y.question.0) j in absurd (omega (arith, z, late, no.0));
       long = leaves.long ∙ reads.long;
     }
       where

@@ -92,3 +92,5 @@ said-group-no xs ys {d = d} e = let p = said-no (first xs) e in sym e ∙ ap sai
 
 pub said-group-yes : (xs ys : List ℕ) {u : Unit} → said (first xs) ≡ Ok u → said (first (xs ++ ys)) ≡ said (first ys)
 said-group-yes xs ys e = ap said (group-yes xs ys refl (said-yes (first xs) e))
+
+pub ruleset in_order = (said-group-no, said-group-yes)

@@ -15,6 +15,7 @@ use state_references::{validate_boundaries, validate_references};
 use state_slots::validate_slots;
 
 // Yes to all, or the first question that says no.
+#[tactic(auto, using(questions::proofs::Chains::in_order), unfolding(questions::specs::Order::first_failing, questions::specs::Order::answers))]
 pub fn validate_manifest(s: &[u8], revision: u32, index: &mut [u32]) -> Result<(), Question>
     requires { Tabled s.now index.old }
     ensures value { result ≡ said (first_failing target_bound_classes revision (manifest_of s.now)) }

@@ -5,12 +5,13 @@ ghost use Rattle.std.specs.Prelude.{◌≡◌, ◌≤◌, ◌<◌, [], length, g
 ghost use Rattle.state.specs.Bytes.{span};
 ghost use Rattle.format.specs.Lists.{same, is_in};
 ghost use Rattle.format.specs.Fields.{portability_of};
+ghost use Rattle.state.specs.Outcome.{said};
 ghost use Rattle.questions.specs.Sets.{first};
 ghost use Rattle.questions.specs.Portability.{target_bound_classes, tag_holds, target_holds, portability_holds};
 ghost use Rattle.state_layout.specs.Tables.{Tabled, manifest_of};
 ghost use Rattle.state_portability.specs.Bound.{some_bound_at};
 
-use state::{Portability, Section};
+use state::{Portability, Question, Section};
 use state_index::keys::{block_key_end, byte_at};
 use state_index::{ahead, text_end, text_part, word_at};
 use state_layout::table_start;
@@ -141,16 +142,16 @@ fn target_holds(s: &[u8]) -> bool
     text_part(s, text_end(s, arch)).len() != 0
 }
 
-// Questions 31 and 32: 0, or the number of the first that says no.
-pub fn validate_portability(s: &[u8], revision: u32, index: &[u32]) -> u8
+// Questions 31 and 32.
+pub fn validate_portability(s: &[u8], revision: u32, index: &[u32]) -> Result<(), Question>
     requires { Tabled s.now index.now }
-    ensures { result ≡ first (portability_holds target_bound_classes revision (manifest_of s.now)) }
+    ensures { result ≡ said (first (portability_holds target_bound_classes revision (manifest_of s.now))) }
 {
     if !tag_holds(s, revision, index) {
-        return 31;
+        return Err(Question(31));
     }
     if !target_holds(s) {
-        return 32;
+        return Err(Question(32));
     }
-    0
+    Ok(())
 }

@@ -4,11 +4,11 @@ use Rattle.manifest.proofs.judge.Goals as goal
 pub returns-in_default : goal.returns-in_default
 returns-in_default c = judge-unread _ c.read_manifest-read.ensures c.in_default.is
 
-pub validate_manifest-question-requires : goal.validate_manifest-question-requires
-validate_manifest-question-requires c = read-tabled (λ i. (c.type_inv.s i).fits) c.read_manifest-read.ensures c.in-Next.is
+pub validate_manifest-requires : goal.validate_manifest-requires
+validate_manifest-requires c = read-tabled (λ i. (c.type_inv.s i).fits) c.read_manifest-read.ensures c.in-Ok.is
 
-pub returns-then-question-ne0 : goal.returns-then-question-ne0
-returns-then-question-ne0 c = judge-no _ c.read_manifest-read.ensures (λ i. (c.type_inv.s i).fits) c.in-Next.is c.validate_manifest-question.ensures.value c.validate_manifest-question.ensures.leaves c.if-question-ne0.true
+pub returns-in-Ok-validate_manifest : goal.returns-in-Ok-validate_manifest
+returns-in-Ok-validate_manifest c = judge-yes _ c.read_manifest-read.ensures (λ i. (c.type_inv.s i).fits) c.in-Ok.is c.validate_manifest.ensures.leaves c.in-Ok-validate_manifest.ensures.value
 
-pub returns : goal.returns
-returns c = judge-yes _ c.read_manifest-read.ensures (λ i. (c.type_inv.s i).fits) c.in-Next.is c.validate_manifest-question.ensures.value c.validate_manifest-question.ensures.leaves c.if-question-ne0.false
+pub returns-in-Err : goal.returns-in-Err
+returns-in-Err c = judge-no _ c.read_manifest-read.ensures (λ i. (c.type_inv.s i).fits) c.in-Ok.is c.validate_manifest.ensures.leaves c.in-Err.ensures.value

@@ -1,2 +1,0 @@
--- `InOrder`: groups of questions asked one after the other.
-pub mod InOrder
