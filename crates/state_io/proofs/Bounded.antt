@@ -81,3 +81,5 @@ module _ (s : List ℕ) (at : ℕ) (f : El value → ℕ) {k : ℕ} (ek : k ≡ 
   pub bound-given : k ≡ 1 → {p : ℕ} → p ≡ min (at + 1) (length s) → f (value_at value s p) ≡ option
   unfolding value_at given
   bound-given e i = rw (← ek, e, ← i) (sym (first_one _))
+
+pub ruleset optional_answers = (bound-none, bound-given)

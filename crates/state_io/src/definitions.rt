@@ -37,6 +37,7 @@ fn value_answer(
 }
 
 // The same of a bound that may be left out.
+#[tactic(auto, using(crate::proofs::Bounded::optional_answers))]
 fn bound_answer(
     s: &[u8],
     index: &[u32],

@@ -74,6 +74,7 @@ pub(crate) fn gather(
 }
 
 // Where the type stands of the connector whose path stands at a position.
+#[tactic(auto, using(crate::proofs::Words::number_past))]
 pub(crate) fn type_at(s: &[u8], at: usize) -> usize
     ensures { result ≡ past (number 4) s.now (past text s.now at) }
 {
@@ -81,6 +82,7 @@ pub(crate) fn type_at(s: &[u8], at: usize) -> usize
 }
 
 // How many more paths there are with the one at a before that at b, 0 or 1; none where they are one path of two types.
+#[tactic(auto, unfolding(crate::specs::Paths::agree, crate::specs::Paths::differ_next))]
 fn more_paths(s: &[u8], a: usize, b: usize) -> Option<usize>
     ensures { result ≡ more_paths s.now a b }
 {
