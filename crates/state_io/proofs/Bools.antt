@@ -2,13 +2,23 @@
 use Prim.Native.Nat.{ℕ, zero, suc, ◌<◌}
 use native.Mathlib.Omega.{arith}
 use mathlib.Core.Path.{◌≡◌, refl, sym, ◌∙◌}
-use mathlib.Core.Bool.{Bool, true, false, ◌&&◌, ◌||◌}
+use mathlib.Core.Bool.{Bool, true, false, cond, ◌&&◌, ◌||◌}
 use mathlib.Core.List.{List, [], ◌∷◌, map, Permᴰ}
 use lib.ListN.{length, get_or}
+use Rattle.std.specs.Prelude.{Some, None}
 use Rattle.state_index.proofs.Order.{apart}
 use Rattle.state_index.proofs.Sorting.{or_swap}
 use Rattle.questions.specs.Sets.{all, any}
 use Rattle.questions.proofs.Sets.{all_map}
+
+-- a number that is there only where a test passes
+pub some_then : (b : Bool) {c n : ℕ} → cond b (Some c) None ≡ Some n → (b ≡ true) × (c ≡ n)
+some_then true e = (refl, cc)
+some_then false e = cc
+
+pub none_then : (b : Bool) (c : ℕ) → cond b (Some c) None ≡ None → b ≡ false
+none_then true c e = cc
+none_then false c e = refl
 
 and-swap : (p q r : Bool) → (p && (q && r)) ≡ (q && (p && r))
 and-swap true q r = refl

@@ -83,3 +83,5 @@ module _ (s : List ℕ) (at : ℕ) (f : El value → ℕ) {k : ℕ} (ek : k ≡ 
   bound-given e i = rw (← ek, e, ← i) (sym (first_one _))
 
 pub ruleset optional_answers = (bound-none, bound-given)
+
+pub ruleset bound_answers = (bound-unordered, bound-type, bound-fails, bound-holds)

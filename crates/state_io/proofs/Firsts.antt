@@ -26,3 +26,5 @@ module _ (g : ℕ → ℕ) (index : List ℕ) (high : ℕ) where
   pub first-end : (i : ℕ) → high ≤ i → ◌≡◌ {A = Result Unit Question} (Ok tt) (said (first_of i))
   unfolding first
   first-end i h = rw (← span_none index i high h)
+
+pub ruleset firsts = (first-here, first-later, first-end)

@@ -74,7 +74,7 @@ pub(crate) fn gather(
 }
 
 // Where the type stands of the connector whose path stands at a position.
-#[tactic(auto, using(crate::proofs::Words::number_past))]
+#[tactic(auto, unfolding(format::specs::Places::past))]
 pub(crate) fn type_at(s: &[u8], at: usize) -> usize
     ensures { result ≡ past (number 4) s.now (past text s.now at) }
 {
@@ -93,6 +93,7 @@ fn more_paths(s: &[u8], a: usize, b: usize) -> Option<usize>
 }
 
 // How many different paths there are, as neighbours tell; none where neighbours of one path have two types.
+#[tactic(auto, using(crate::proofs::Words::counting))]
 pub(crate) fn count_paths(s: &[u8], index: &[u32], paths: Table) -> Option<usize>
     requires { paths.to ≤ length index.now }
     ensures { result ≡ count_agreeing s.now (words index.now paths) }
