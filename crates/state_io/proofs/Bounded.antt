@@ -75,6 +75,7 @@ module _ (s : List ℕ) (at : ℕ) (f : El value → ℕ) {k : ℕ} (ek : k ≡ 
   unfolding value_at given
   bound-given e i = rw (← ek, e, ← i) (sym (first_one _))
 
+-- the answers of a bound that may be left out, and of one that is given
 pub ruleset optional_answers = (bound-none, bound-given)
 
 pub ruleset bound_answers = (bound-unordered, bound-type, bound-fails, bound-holds)

@@ -27,4 +27,5 @@ module _ (g : ℕ → ℕ) (index : List ℕ) (high : ℕ) where
   unfolding first
   first-end i h = rw (← span_none index i high h)
 
-pub ruleset firsts = (first-here, first-later, first-end)
+-- where the first answer that says no is found, and where there is none
+pub ruleset firsts = (first-here, first-end)

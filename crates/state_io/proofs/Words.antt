@@ -79,4 +79,5 @@ module _ (s : List ℕ) where
           let e : count - 1 + 1 ≡ count = omega (arith, c.some) in
           rw (← e) (sym (left-one (count - 1) (get_or index (i - 1) 0)) ∙ rw (← span_none index i paths.to h) at c.is)
 
+-- what a walk over the words starts with, and where it ends
 pub ruleset counting = (counted-none, counted-first, counted-stop, counted-all, more-few)

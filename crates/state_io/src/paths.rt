@@ -40,6 +40,7 @@ fn put_paths(s: &[u8], index: &mut [u32], connectors: Table, marks: usize) -> Ta
     ensures { Puts s.now connectors marks result index.old index.new }
 {
     let room = marks + (connectors.to - connectors.from);
+    // The place of the next path: it moves on only where one is put.
     let mut k = room;
     for i in connectors.from..connectors.to {
         let is_marked = index[marks + (i - connectors.from)] != 0;
