@@ -6,6 +6,7 @@ use mathlib.Core.Bool.{Bool, true, false, cond}
 use mathlib.Core.List.{List, [], ◌∷◌}
 use lib.ListN.{length, get_or}
 use Rattle.std.specs.Prelude.{Option, Some, None}
+use Rattle.std.specs.Bool.{then_some}
 use Rattle.state.specs.Bytes.{span}
 use Rattle.state.proofs.Bytes.{span-cons, span_none}
 use Rattle.format.specs.Lists.{same}
@@ -13,6 +14,10 @@ use Rattle.state_index.specs.Keys.{text_at}
 use Rattle.state_index.specs.declared.Table.{Table}
 use Rattle.state_io.proofs.Bools.{some_then, none_then}
 use Rattle.state_io.specs.Paths.{words, agree, agree_next, neighbours_agree, differ_next, count_runs, more_paths, count_agreeing}
+
+pub some-zero : (b : Bool) → then_some {T = ℕ} b 0 ≡ cond b (Some 0) None
+some-zero true = refl
+some-zero false = refl
 
 module _ (s : List ℕ) where
   -- ---- those from p on, where n were counted in front of them
