@@ -6,7 +6,7 @@ use mathlib.Core.List.{List, [], ◌∷◌, map, map-map, Permᴰ}
 use lib.ListN.{length, length-map}
 use lib.Dec.{eqb}
 use borrow.Author.Tests.{eq-eqb, ne_eqb}
-use Rattle.std.specs.Prelude.{Option, Some, None}
+use Rattle.std.specs.Prelude.{Some, None}
 use Rattle.state.specs.Bytes.{AreBytes}
 use Rattle.format.specs.Lists.{same, is_in}
 use Rattle.format.specs.Format.{encode}
@@ -30,21 +30,13 @@ use Rattle.state_layout.proofs.Classed.{any-map}
 use Rattle.state_layout.proofs.Names.{keys-are}
 use Rattle.state_layout.proofs.Tables.{limit}
 use Rattle.state_io.specs.Paths.{type_at, definition_at, agree, all_agree, neighbours_agree, count_agreeing, defined_among, answer_among, answers_among}
-use Rattle.state_io.proofs.Bools.{pairs-map, any-perm}
+use Rattle.state_io.proofs.Bools.{some_then, none_then, pairs-map, any-perm}
 use Rattle.state_io.proofs.Neighbours.{neighbours-agree, agree-perm, runs-different, count-perm}
 
 -- ---- what neighbours of sorted paths answer
-counts : (b : Bool) {c n : ℕ} → cond b (Some c) None ≡ Some n → (b ≡ true) × (c ≡ n)
-counts true e = (refl, cc)
-counts false e = cc
-
-counts-not : (b : Bool) (c : ℕ) → cond b (Some c) None ≡ None → b ≡ false
-counts-not true c e = cc
-counts-not false c e = refl
-
 module _ (s : List ℕ) (ps : List ℕ) (o : Ordered (at_most Text s) ps) where
   pub all-agree : {n : ℕ} → count_agreeing s ps ≡ Some n → all_agree s ps ≡ true
-  all-agree e = sym (neighbours-agree s ps o) ∙ (counts (neighbours_agree s ps) e).0
+  all-agree e = sym (neighbours-agree s ps o) ∙ (some_then (neighbours_agree s ps) e).0
 
   module _ (es : List (Entry enums)) (ds : List ℕ) where
     abbrev answers : List ℕ
@@ -52,11 +44,11 @@ module _ (s : List ℕ) (ps : List ℕ) (o : Ordered (at_most Text s) ps) where
 
     pub types-differ : count_agreeing s ps ≡ None → 27 ≡ first answers
     unfolding answers_among
-    types-differ e = says-no 26 _ (sym (neighbours-agree s ps o) ∙ counts-not (neighbours_agree s ps) _ e)
+    types-differ e = says-no 26 _ (sym (neighbours-agree s ps o) ∙ none_then (neighbours_agree s ps) _ e)
 
     module _ {n : ℕ} (e : count_agreeing s ps ≡ Some n) where
       counted : {b : Bool} → eqb (length ds) n ≡ b → eqb (length ds) (count_different (map (text_at s) ps)) ≡ b
-      counted i = rw (← runs-different s ps o, (counts (neighbours_agree s ps) e).1) i
+      counted i = rw (← runs-different s ps o, (some_then (neighbours_agree s ps) e).1) i
 
       pub count-differs : (n ≡ length ds → ⊥) → 28 ≡ first answers
       unfolding answers_among

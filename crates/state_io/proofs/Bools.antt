@@ -1,14 +1,24 @@
 -- Laws of `all` and `any` on plain lists: of a permutation, of a map, of one element.
 use Prim.Native.Nat.{ℕ, zero, suc, ◌<◌}
 use native.Mathlib.Omega.{arith}
-use mathlib.Core.Path.{◌≡◌, refl, sym, ◌∙◌}
-use mathlib.Core.Bool.{Bool, true, false, ◌&&◌, ◌||◌}
+use mathlib.Core.Path.{◌≡◌, refl, ◌∙◌}
+use mathlib.Core.Bool.{Bool, true, false, cond, ◌&&◌, or-true}
+use Rattle.text.proofs.Blocks.{both}
 use mathlib.Core.List.{List, [], ◌∷◌, map, Permᴰ}
 use lib.ListN.{length, get_or}
-use Rattle.state_index.proofs.Order.{apart}
+use Rattle.std.specs.Prelude.{Some, None}
 use Rattle.state_index.proofs.Sorting.{or_swap}
 use Rattle.questions.specs.Sets.{all, any}
 use Rattle.questions.proofs.Sets.{all_map}
+
+-- a number that is there only where a test passes
+pub some_then : (b : Bool) {c n : ℕ} → cond b (Some c) None ≡ Some n → (b ≡ true) × (c ≡ n)
+some_then true e = (refl, cc)
+some_then false e = cc
+
+pub none_then : (b : Bool) (c : ℕ) → cond b (Some c) None ≡ None → b ≡ false
+none_then true c e = cc
+none_then false c e = refl
 
 and-swap : (p q r : Bool) → (p && (q && r)) ≡ (q && (p && r))
 and-swap true q r = refl
@@ -47,20 +57,11 @@ module _ (t : ℕ → Bool) where
   pub all-at : (l : List ℕ) → all t l ≡ true → (j : ℕ) → j < length l → t (get_or l j 0) ≡ true
   unfolding all
   all-at [] e j h = absurd (omega arith)
-  all-at (x ∷ l) e j h = go (t x) refl e j h (all-at l)
-    where
-      go : (b : Bool) → t x ≡ b → (b && all t l) ≡ true → (j : ℕ) → j < suc (length l)
-          → (all t l ≡ true → (j : ℕ) → j < length l → t (get_or l j 0) ≡ true) → t (get_or (x ∷ l) j 0) ≡ true
-      go true i e zero h k = i
-      go true i e (suc j) h k = k e j (omega arith)
-      go false i e j h k = apart (sym e)
+  all-at (x ∷ l) e zero h = (both (t x) (all t l) e).0
+  all-at (x ∷ l) e (suc j) h = all-at l (both (t x) (all t l) e).1 j (omega arith)
 
   pub any_at : (l : List ℕ) (j : ℕ) → j < length l → t (get_or l j 0) ≡ true → any t l ≡ true
   unfolding any
   any_at [] j h e = absurd (omega arith)
   any_at (x ∷ l) zero h e = rw e
-  any_at (x ∷ l) (suc j) h e = go (t x) (any_at l j (omega arith) e)
-    where
-      go : (b : Bool) → any t l ≡ true → (b || any t l) ≡ true
-      go true i = refl
-      go false i = i
+  any_at (x ∷ l) (suc j) h e = rw (any_at l j (omega arith) e) (or-true (t x))

@@ -2,11 +2,11 @@
 use Prim.Native.Nat.{ℕ, zero, suc, ◌+◌, ◌≤◌, min}
 use native.Mathlib.Omega.{arith}
 use mathlib.Core.Path.{◌≡◌, refl, sym, ◌∙◌}
-use mathlib.Core.Bool.{Bool, true, false, not, ◌&&◌, ◌||◌}
+use mathlib.Core.Bool.{Bool, true, false}
 use mathlib.Core.List.{List, [], ◌∷◌, map}
 use lib.ListN.{length, get_or}
-use lib.Dec.{eqb}
 use borrow.Author.Tests.{ne_eqb}
+use Rattle.std.proofs.lemmas.Bool.Decides.{nat_tests}
 use Rattle.format.specs.Format.{El, done}
 use Rattle.format.specs.Manifest.{value_type, value, optional, enums}
 use Rattle.format.specs.Fields.{Entry, value_tag, given}
@@ -14,7 +14,7 @@ use Rattle.format.specs.Values.{value_at}
 use Rattle.questions.specs.Sets.{first, ◌unless◌}
 use Rattle.questions.specs.Declarations.{enum_holds}
 use Rattle.questions.proofs.Chains.{says-yes, says-no, first_one}
-use Rattle.questions.specs.Inputs.{same_type, has_type, bound_holds, bound_answer}
+use Rattle.questions.specs.Inputs.{same_type, bound_holds, bound_answer}
 use Rattle.state_layout.proofs.Choosing.{has-type}
 
 module _ (s : List ℕ) (at : ℕ) where
@@ -33,14 +33,7 @@ module _ (s : List ℕ) (at : ℕ) where
     -- a Boolean or a String
     pub bound-unordered : 2 ≤ k → k ≤ 3 → 29 ≡ answer
     unfolding bound_holds
-    bound-unordered a b = refused (rw (tag_of, ← ek) (go k a b))
-      where
-        go : (n : ℕ) → 2 ≤ n → n ≤ 3 → (not (eqb n 2 || eqb n 3) && has_type (value_at value s at) t) ≡ false
-        go zero a b = absurd (omega arith)
-        go (suc zero) a b = absurd (omega arith)
-        go (suc (suc zero)) a b = refl
-        go (suc (suc (suc zero))) a b = refl
-        go (suc (suc (suc (suc n)))) a b = absurd (omega arith)
+    bound-unordered a b = refused (rw (tag_of, ← ek) (grind (arith, nat_tests)))
 
     module _ (n : k ≡ 2 → ⊥) (m : k ≡ 3 → ⊥) {r : Bool} (er : r ≡ same_type (value_at value_type s at) t) where
       typed-bound : bound_holds t (value_at value s at) ≡ r
@@ -81,3 +74,8 @@ module _ (s : List ℕ) (at : ℕ) (f : El value → ℕ) {k : ℕ} (ek : k ≡ 
   pub bound-given : k ≡ 1 → {p : ℕ} → p ≡ min (at + 1) (length s) → f (value_at value s p) ≡ option
   unfolding value_at given
   bound-given e i = rw (← ek, e, ← i) (sym (first_one _))
+
+-- the answers of a bound that may be left out, and of one that is given
+pub ruleset optional_answers = (bound-none, bound-given)
+
+pub ruleset bound_answers = (bound-unordered, bound-type, bound-fails, bound-holds)

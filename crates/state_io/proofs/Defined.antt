@@ -2,10 +2,11 @@
 use Prim.Native.Nat.{ℕ, ◌-◌, ◌<◌}
 use native.Mathlib.Omega.{arith}
 use mathlib.Core.Path.{◌≡◌, refl, sym, ap, ◌∙◌}
-use mathlib.Core.Bool.{Bool, true, false, ◌&&◌, ◌||◌}
+use mathlib.Core.Bool.{Bool, true, false, ◌&&◌}
 use mathlib.Core.List.{List, [], ◌∷◌, ◌++◌, map, map-append}
 use lib.ListN.{length, get_or}
 use Rattle.state.proofs.Bytes.{span-length}
+use Rattle.text.proofs.Blocks.{both, neither}
 use Rattle.format.specs.Lists.{same, is_in}
 use Rattle.format.specs.Format.{number, text}
 use Rattle.format.specs.Manifest.{value_type, value, optional, enums, input_definitions, input_rest, numbered}
@@ -20,7 +21,7 @@ use Rattle.state_index.specs.declared.SortKey.TheVariants.{Text}
 use Rattle.state_index.specs.Keys.{text_at, at_most, sort_key}
 use Rattle.state_index.specs.Sort.{Ordered}
 use Rattle.state_index.specs.Find.{key_at_most, Finds}
-use Rattle.std.specs.Prelude.{Option, Some, None, Result, Ok, Err}
+use Rattle.std.specs.Prelude.{Option, Some, Result, Ok, Err}
 use Rattle.state.specs.declared.Question.{Question}
 use Rattle.state.specs.Outcome.{said}
 use Rattle.state_index.specs.declared.Table.{Table}
@@ -36,11 +37,7 @@ use Rattle.state_io.proofs.Types.{type-sym, type-trans}
 none_of : (t u : ℕ → Bool) → ((z : ℕ) → t z ≡ true → u z ≡ false) → (l : List ℕ) → all t l ≡ true → any u l ≡ false
 unfolding all any
 none_of t u h [] e = refl
-none_of t u h (z ∷ l) e = go (t z) refl e (none_of t u h l)
-  where
-    go : (b : Bool) → t z ≡ b → (b && all t l) ≡ true → (all t l ≡ true → any u l ≡ false) → (u z || any u l) ≡ false
-    go true i e k = rw (h z i) (k e)
-    go false i e k = apart (sym e)
+none_of t u h (z ∷ l) e = let b = both (t z) (all t l) e in rw (h z b.0) (none_of t u h l b.1)
 
 module _ (s : List ℕ) (d : Entry input_definitions) where
   abbrev defines : ℕ → Bool
@@ -49,12 +46,9 @@ module _ (s : List ℕ) (d : Entry input_definitions) where
   none-defined : (qs : List ℕ) → is_in (input_path d) (map (text_at s) qs) ≡ false → defined_among s qs d ≡ false
   unfolding defined_among any is_in
   none-defined [] e = refl
-  none-defined (q ∷ qs) e = go (same (input_path d) (text_at s q)) refl e (none-defined qs)
-    where
-      go : (b : Bool) → same (input_path d) (text_at s q) ≡ b → (b || is_in (input_path d) (map (text_at s) qs)) ≡ false
-          → (is_in (input_path d) (map (text_at s) qs) ≡ false → any defines qs ≡ false) → (defines q || any defines qs) ≡ false
-      go true i e k = apart e
-      go false i e k = rw (same-sym (text_at s q) (input_path d), i) (k e)
+  none-defined (q ∷ qs) e =
+      let n = neither (same (input_path d) (text_at s q)) (is_in (input_path d) (map (text_at s) qs)) e in
+      rw (same-sym (text_at s q) (input_path d), n.0) (none-defined qs n.1)
 
   module _ (q : ℕ) (is : text_at s q ≡ input_path d) where
     -- another path of a type that is not this one's does not define either
@@ -85,53 +79,49 @@ pub seek-order : (s l : List ℕ) → Ordered (at_most Text s) l → Ordered (ke
 unfolding at_most sort_key numbered key_at value_at
 seek-order s l o = o
 
-module _ (s index : List ℕ) (paths : Table) (at : ℕ) (es : List (Entry enums)) where
-  abbrev definition : Entry input_definitions
-  definition = definition_at s at
+module _ (s index : List ℕ) (paths : Table) (at : ℕ) where
+  -- the path that was found decides
+  pub decided : {key : List ℕ} → key ≡ text_at s at → {f : Option ℕ} → Finds (numbered 12) s index paths.from paths.to key f → Sought s index paths
+      → (w : ℕ) → f ≡ Some w → {p : ℕ} → p ≡ get_or index w 0 → {t : ℕ} → t ≡ past text s at → {u : ℕ} → u ≡ past (number 4) s (past text s p)
+      → {r : Bool} → r ≡ same_type (value_at value_type s t) (value_at value_type s u) → defined_among s (words index paths) (definition_at s at) ≡ r
+  unfolding numbered key_at value_at input_path input_type input_rest
+  decided ek found so w e {p} ep et eu er =
+      let a = found.at w e in
+      let g : get_or (words index paths) (w - paths.from) 0 ≡ p = span-get index paths.from paths.to w a.0 a.1 ∙ sym ep in
+      let len : length (words index paths) ≡ paths.to - paths.from = span-length index paths.from paths.to so.forward so.fits in
+      let k : text_at s (get_or (words index paths) (w - paths.from) 0) ≡ text_at s at = rw (g, ep) (a.2 ∙ ek) in
+      one-decides s (definition_at s at) (words index paths) so.agrees (w - paths.from) (omega arith) k ∙ rw (g, ← eu, ← et) (sym er)
 
+module _ (s qs : List ℕ) (at : ℕ) (es : List (Entry enums)) where
   abbrev answer : ℕ
-  answer = answer_among s es (words index paths) definition
+  answer = answer_among s es qs (definition_at s at)
 
-  undefined : defined_among s (words index paths) definition ≡ false → 28 ≡ answer
+  pub undefined : defined_among s qs (definition_at s at) ≡ false → 28 ≡ answer
   unfolding answer_among
   undefined e = says-no 27 _ e
 
-  module _ {key : List ℕ} (ek : key ≡ text_at s at) {f : Option ℕ} (found : Finds (numbered 12) s index paths.from paths.to key f) where
-    pub not_found : f ≡ None → 28 ≡ answer
-    unfolding numbered key_at value_at input_path
-    not_found e = undefined (none-defined s definition (words index paths) (rw (← ek) (found.nothing e)))
+  pub not_found : {key : List ℕ} → key ≡ text_at s at → is_in key (map (key_at (numbered 12) s) qs) ≡ false → 28 ≡ answer
+  unfolding numbered key_at value_at input_path
+  not_found ek e = undefined (none-defined s (definition_at s at) qs (rw (← ek) e))
 
-    module _ (so : Sought s index paths) (w : ℕ) (e : f ≡ Some w) {p : ℕ} (ep : p ≡ get_or index w 0) {t : ℕ} (et : t ≡ past text s at)
-        {u : ℕ} (eu : u ≡ past (number 4) s (past text s p)) {r : Bool} (er : r ≡ same_type (value_at value_type s t) (value_at value_type s u)) where
-      decided : defined_among s (words index paths) definition ≡ r
-      unfolding numbered key_at value_at input_path input_type input_rest
-      decided =
-          let a = found.at w e in
-          let g : get_or (words index paths) (w - paths.from) 0 ≡ p = span-get index paths.from paths.to w a.0 a.1 ∙ sym ep in
-          let len : length (words index paths) ≡ paths.to - paths.from = span-length index paths.from paths.to so.forward so.fits in
-          let k : text_at s (get_or (words index paths) (w - paths.from) 0) ≡ text_at s at = rw (g, ep) (a.2 ∙ ek) in
-          one-decides s definition (words index paths) so.agrees (w - paths.from) (omega arith) k ∙ rw (g, ← eu, ← et) (sym er)
+  -- where there is one, the minimum decides, and then the maximum
+  module _ (y : defined_among s qs (definition_at s at) ≡ true) {t a b : ℕ} (et : t ≡ past text s at) (ea : a ≡ past value_type s t)
+      (eb : b ≡ past (optional value) s a) where
+    abbrev bounds : ℕ → List ℕ
+    bounds at = map (bound_answer es (value_at value_type s t)) (given value (value_at (optional value) s at))
 
-      pub other-type : r ≡ false → 28 ≡ answer
-      other-type n = undefined (decided ∙ n)
+    bounds-answer : first (bounds a ++ bounds b) ≡ answer
+    unfolding answer_among input_type minimum maximum input_rest value_at past
+    bounds-answer =
+        ap first (sym (map-append (bound_answer es (value_at value_type s t)) (given value (value_at (optional value) s a)) (given value (value_at (optional value) s b))))
+        ∙ rw (eb, ea, et) (sym (says-yes 28 _ y))
 
-      -- behind its type the minimum decides, and then the maximum
-      module _ (y : r ≡ true) {a b : ℕ} (ea : a ≡ past value_type s t) (eb : b ≡ past (optional value) s a) where
-        abbrev bounds : ℕ → List ℕ
-        bounds at = map (bound_answer es (value_at value_type s t)) (given value (value_at (optional value) s at))
+    module _ {z : Result Unit Question} (ez : z ≡ said (first (bounds a))) where
+      pub minimum-refused : {q : Question} → z ≡ Err q → z ≡ said answer
+      minimum-refused i = said-group-no (bounds a) ez i (bounds b) ∙ ap said bounds-answer
 
-        bounds-answer : first (bounds a ++ bounds b) ≡ answer
-        unfolding answer_among input_type minimum maximum input_rest value_at past
-        bounds-answer =
-            ap first (sym (map-append (bound_answer es (value_at value_type s t)) (given value (value_at (optional value) s a)) (given value (value_at (optional value) s b))))
-            ∙ rw (eb, ea, et) (sym (says-yes 28 _ (decided ∙ y)))
-
-        module _ {z : Result Unit Question} (ez : z ≡ said (first (bounds a))) where
-          pub minimum-refused : {q : Question} → z ≡ Err q → z ≡ said answer
-          minimum-refused i = said-group-no (bounds a) ez i (bounds b) ∙ ap said bounds-answer
-
-          pub maximum-answers : {v : Unit} → z ≡ Ok v → first (bounds b) ≡ answer
-          maximum-answers i = said-group-yes (bounds a) ez i (bounds b) ∙ bounds-answer
+      pub maximum-answers : {v : Unit} → z ≡ Ok v → first (bounds b) ≡ answer
+      maximum-answers i = said-group-yes (bounds a) ez i (bounds b) ∙ bounds-answer
 
 -- the answer of the definition at a position, by the words of an index
 abbrev pub answer_of : (s index : List ℕ) (classes paths : Table) → ℕ → ℕ

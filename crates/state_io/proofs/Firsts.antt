@@ -26,3 +26,6 @@ module _ (g : ℕ → ℕ) (index : List ℕ) (high : ℕ) where
   pub first-end : (i : ℕ) → high ≤ i → ◌≡◌ {A = Result Unit Question} (Ok tt) (said (first_of i))
   unfolding first
   first-end i h = rw (← span_none index i high h)
+
+-- where the first answer that says no is found, and where there is none
+pub ruleset firsts = (first-here, first-end)

@@ -139,38 +139,33 @@ module _ {s first : List ℕ} {cs : Table} {marks : ℕ} where
       words-cons : span first i cs.to ≡ get_or index i 0 ∷ span first (i + 1) cs.to
       words-cons = span-cons first i cs.to h (omega (arith, m.below, m.fits)) ∙ rw (get-kept m.kept i (omega (arith, m.below)))
 
+      putting-on : {new : List ℕ} {j : ℕ} → k ≤ j → j ≤ k + 1 → Kept (marks_end cs marks) (marks_end cs marks + (cs.to - cs.from)) index new
+          → span new (marks_end cs marks) j ++ paths_of s first cs marks (i + 1) ≡ span index (marks_end cs marks) k ++ paths_of s first cs marks i
+          → Putting s first cs marks new (i + 1) j
+      putting-on a b l e = record {
+        below = m.below;
+        fits = m.fits;
+        least = omega (arith, m.least);
+        most = omega arith;
+        start = omega (arith, m.start);
+        few = omega (arith, m.few, m.least);
+        kept = kept_trans m.kept l;
+        is = e ∙ m.is;
+      }
+
       pub putting-skip : get_or index (marks + (i - cs.from)) 0 ≡ 0 → Putting s first cs marks index (i + 1) k
       unfolding chosen is_set
-      putting-skip z =
-          let e : paths_of s first cs marks i ≡ paths_of s first cs marks (i + 1) = rw (marks-cons, words-cons, z) in
-          record {
-            below = m.below;
-            fits = m.fits;
-            least = omega (arith, m.least);
-            most = omega arith;
-            start = m.start;
-            few = omega (arith, m.few, m.least);
-            kept = m.kept;
-            is = rw (← e) m.is;
-          }
+      putting-skip z = putting-on (omega arith) (omega arith) (kept_refl _ _ index) (rw (marks-cons, words-cons, z))
 
       pub putting-next : (get_or index (marks + (i - cs.from)) 0 ≡ 0 → ⊥) → {p : ℕ} → p ≡ get_or index i 0 → {x : ℕ} → x ≡ past connector_key s p
           → Putting s first cs marks (set index k x) (i + 1) (k + 1)
       unfolding chosen
       putting-next n {p} ep {x} ex =
           let e : paths_of s first cs marks i ≡ x ∷ paths_of s first cs marks (i + 1) = rw (marks-cons, words-cons, set_is _ n, ex, ep) in
-          record {
-            below = m.below;
-            fits = m.fits;
-            least = omega (arith, m.least);
-            most = omega arith;
-            start = omega (arith, m.start);
-            few = omega (arith, m.few, m.least);
-            kept = kept_trans m.kept (set-kept (marks_end cs marks) (marks_end cs marks + (cs.to - cs.from)) index k x m.start (omega (arith, m.few, m.least)));
-            is =
-                rw (span_more index (marks_end cs marks) k x m.start place-there, append_assoc (span index (marks_end cs marks) k) (x ∷ []) (paths_of s first cs marks (i + 1)), ← e)
-                m.is;
-          }
+          putting-on (omega arith) (omega arith)
+          (set-kept (marks_end cs marks) (marks_end cs marks + (cs.to - cs.from)) index k x m.start (omega (arith, m.few, m.least)))
+          (rw (span_more index (marks_end cs marks) k x m.start place-there, e)
+          (append_assoc (span index (marks_end cs marks) k) (x ∷ []) (paths_of s first cs marks (i + 1))))
 
     pub putting-end : cs.to ≤ i → Puts s cs marks (record { from = marks_end cs marks; to = k }) first index
     unfolding chosen

@@ -4,6 +4,7 @@ use native.Mathlib.Omega.{arith}
 use mathlib.Core.Path.{◌≡◌, refl, sym, ◌∙◌, subst}
 use mathlib.Core.Bool.{Bool, true, false, not, cond, ◌&&◌, ◌||◌, and-false}
 use mathlib.Core.List.{List, [], ◌∷◌, map, Permᴰ}
+use Rattle.text.proofs.Blocks.{both}
 use Rattle.format.specs.Lists.{same, is_in}
 use Rattle.format.proofs.Lists.{same_true, same_refl, same-sym}
 use Rattle.questions.specs.Sets.{all, count_different}
@@ -71,12 +72,9 @@ module _ (s : List ℕ) where
       → all (agree s q) ps ≡ true → all (agree s p) ps ≡ true
   unfolding all
   all-over p q [] h b a e = refl
-  all-over p q (z ∷ ps) h b a e = go (agree s q z) refl e (all-over p q ps h b.1 a)
-    where
-      go : (t : Bool) → agree s q z ≡ t → (t && all (agree s q) ps) ≡ true → (all (agree s q) ps ≡ true → all (agree s p) ps ≡ true)
-          → (agree s p z && all (agree s p) ps) ≡ true
-      go true i e k = rw (agree-over p q z h b.0 a i) (k e)
-      go false i e k = let z : ◌≡◌ {A = ℕ} 0 1 = cc in absurd (omega arith)
+  all-over p q (z ∷ ps) h b a e =
+      let d = both (agree s q z) (all (agree s q) ps) e in
+      rw (agree-over p q z h b.0 a d.0) (all-over p q ps h b.1 a d.1)
 
   next-all : (p : ℕ) (ps : List ℕ) → Ordered in_order (p ∷ ps) → (agree_next s p ps && after (agree s) ps) ≡ (all (agree s p) ps && after (agree s) ps)
   unfolding agree_next all

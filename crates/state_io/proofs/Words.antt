@@ -1,8 +1,8 @@
 -- What neighbours say, word by word of an index.
-use Prim.Native.Nat.{ℕ, ◌+◌, ◌-◌, ◌≤◌, ◌<◌, min}
+use Prim.Native.Nat.{ℕ, ◌+◌, ◌-◌, ◌≤◌, ◌<◌}
 use native.Mathlib.Omega.{arith}
 use mathlib.Core.Path.{◌≡◌, refl, sym, ap, ◌∙◌}
-use mathlib.Core.Bool.{Bool, true, false, cond, ◌&&◌}
+use mathlib.Core.Bool.{Bool, true, false, cond}
 use mathlib.Core.List.{List, [], ◌∷◌}
 use lib.ListN.{length, get_or}
 use Rattle.std.specs.Prelude.{Option, Some, None}
@@ -10,46 +10,19 @@ use Rattle.std.specs.Bool.{then_some}
 use Rattle.state.specs.Bytes.{span}
 use Rattle.state.proofs.Bytes.{span-cons, span_none}
 use Rattle.format.specs.Lists.{same}
-use Rattle.format.specs.Format.{number, text}
-use Rattle.format.specs.Manifest.{value_type}
-use Rattle.format.specs.Places.{past}
-use Rattle.format.specs.Values.{value_at}
-use Rattle.questions.specs.Inputs.{same_type}
 use Rattle.state_index.specs.Keys.{text_at}
 use Rattle.state_index.specs.declared.Table.{Table}
+use Rattle.state_io.proofs.Bools.{some_then, none_then}
 use Rattle.state_io.specs.Paths.{words, agree, agree_next, neighbours_agree, differ_next, count_runs, more_paths, count_agreeing}
 
-pub number_past : (s : List ℕ) (w : ℕ) {p q r : ℕ} → p ≡ q → r ≡ min (p + w) (length s) → r ≡ past (number w) s q
-unfolding past
-number_past s w e i = i ∙ rw e
-
-some-zero : (z : Bool) → then_some {T = ℕ} z 0 ≡ cond z (Some 0) None
+pub some-zero : (b : Bool) → then_some {T = ℕ} b 0 ≡ cond b (Some 0) None
 some-zero true = refl
 some-zero false = refl
 
 module _ (s : List ℕ) where
-  -- ---- two neighbours
-  module _ (a b : ℕ) {x y : List ℕ} (ex : x ≡ text_at s a) (ey : y ≡ text_at s b) {r : Bool} (er : r ≡ same x y) where
-    pub more-apart : r ≡ false → Some 1 ≡ more_paths s a b
-    unfolding agree differ_next
-    more-apart e = rw (← ex, ← ey, ← er, e)
-
-    pub more-alike : r ≡ true → {t u : ℕ} → t ≡ past (number 4) s (past text s a) → u ≡ past (number 4) s (past text s b)
-        → {z : Bool} → z ≡ same_type (value_at value_type s t) (value_at value_type s u) → then_some z 0 ≡ more_paths s a b
-    unfolding agree differ_next
-    more-alike e et eu {z} ez = rw (← ex, ← ey, ← er, e, ← et, ← eu, ← ez) (some-zero z)
-
   -- ---- those from p on, where n were counted in front of them
   abbrev left : (n p : ℕ) → List ℕ → Option ℕ
   left n p ps = cond (neighbours_agree s (p ∷ ps)) (Some (n + count_runs s (p ∷ ps))) None
-
-  counted : (b : Bool) (d : ℕ) {m : ℕ} → cond b (Some d) None ≡ Some m → (b ≡ true) × (d ≡ m)
-  counted true d e = (refl, cc)
-  counted false d e = cc
-
-  uncounted : (b : Bool) (d : ℕ) → cond b (Some d) None ≡ None → b ≡ false
-  uncounted true d e = cc
-  uncounted false d e = refl
 
   left-one : (n p : ℕ) → left n p [] ≡ Some (n + 1)
   unfolding neighbours_agree count_runs agree_next differ_next
@@ -58,17 +31,17 @@ module _ (s : List ℕ) where
   left-more : (n p q : ℕ) (ps : List ℕ) {m : ℕ} → more_paths s p q ≡ Some m → left n p (q ∷ ps) ≡ left (n + m) q ps
   unfolding neighbours_agree count_runs agree_next differ_next
   left-more n p q ps {m} e =
-      let c = counted (agree s p q) (cond (same (text_at s p) (text_at s q)) 0 1) e in
+      let c = some_then (agree s p q) e in
       let a : n + (m + count_runs s (q ∷ ps)) ≡ n + m + count_runs s (q ∷ ps) = omega arith in
       rw (c.0, c.1) (ap (λ (k : ℕ). cond (neighbours_agree s (q ∷ ps)) (Some k) None) a)
 
   left-none : (n p q : ℕ) (ps : List ℕ) → more_paths s p q ≡ None → left n p (q ∷ ps) ≡ None
   unfolding neighbours_agree count_runs agree_next differ_next
-  left-none n p q ps e = rw (uncounted (agree s p q) _ e)
+  left-none n p q ps e = rw (none_then (agree s p q) _ e)
 
   pub more-few : (p q : ℕ) {m : ℕ} → more_paths s p q ≡ Some m → m ≤ 1
   unfolding differ_next
-  more-few p q e = rw (← (counted (agree s p q) (cond (same (text_at s p) (text_at s q)) 0 1) e).1) (few (same (text_at s p) (text_at s q)))
+  more-few p q e = rw (← (some_then (agree s p q) e).1) (few (same (text_at s p) (text_at s q)))
     where
       few : (b : Bool) → cond b 0 1 ≤ 1
       few true = omega arith
@@ -110,3 +83,6 @@ module _ (s : List ℕ) where
       counted-all h =
           let e : count - 1 + 1 ≡ count = omega (arith, c.some) in
           rw (← e) (sym (left-one (count - 1) (get_or index (i - 1) 0)) ∙ rw (← span_none index i paths.to h) at c.is)
+
+-- what a walk over the words starts with, and where it ends
+pub ruleset counting = (counted-none, counted-first, counted-stop, counted-all, more-few)

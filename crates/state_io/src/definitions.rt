@@ -18,6 +18,7 @@ use state_layout::ends::{bound_end, type_end};
 use state_layout::{same_type, validate_value_enum};
 
 // A value that is a bound, of the type at t: questions 29 and 30.
+#[tactic(auto, using(crate::proofs::Bounded::bound_answers))]
 fn value_answer(
     s: &[u8],
     index: &[u32],
@@ -37,6 +38,7 @@ fn value_answer(
 }
 
 // The same of a bound that may be left out.
+#[tactic(auto, using(crate::proofs::Bounded::optional_answers))]
 fn bound_answer(
     s: &[u8],
     index: &[u32],
@@ -81,6 +83,7 @@ fn definition_answer(
 }
 
 // All definitions. One word after the other is tried first, since definitions mostly stand in the order of their paths.
+#[tactic(auto, using(crate::proofs::Firsts::firsts))]
 pub(crate) fn definitions_answer(
     s: &[u8],
     index: &[u32],

@@ -40,6 +40,7 @@ fn put_paths(s: &[u8], index: &mut [u32], connectors: Table, marks: usize) -> Ta
     ensures { Puts s.now connectors marks result index.old index.new }
 {
     let room = marks + (connectors.to - connectors.from);
+    // The place of the next path: it moves on only where one is put.
     let mut k = room;
     for i in connectors.from..connectors.to {
         let is_marked = index[marks + (i - connectors.from)] != 0;
@@ -74,6 +75,7 @@ pub(crate) fn gather(
 }
 
 // Where the type stands of the connector whose path stands at a position.
+#[tactic(auto, unfolding(format::specs::Places::past))]
 pub(crate) fn type_at(s: &[u8], at: usize) -> usize
     ensures { result ≡ past (number 4) s.now (past text s.now at) }
 {
@@ -81,6 +83,7 @@ pub(crate) fn type_at(s: &[u8], at: usize) -> usize
 }
 
 // How many more paths there are with the one at a before that at b, 0 or 1; none where they are one path of two types.
+#[tactic(auto, unfolding(crate::specs::Paths::agree, crate::specs::Paths::differ_next))]
 fn more_paths(s: &[u8], a: usize, b: usize) -> Option<usize>
     ensures { result ≡ more_paths s.now a b }
 {
@@ -91,6 +94,7 @@ fn more_paths(s: &[u8], a: usize, b: usize) -> Option<usize>
 }
 
 // How many different paths there are, as neighbours tell; none where neighbours of one path have two types.
+#[tactic(auto, using(crate::proofs::Words::counting))]
 pub(crate) fn count_paths(s: &[u8], index: &[u32], paths: Table) -> Option<usize>
     requires { paths.to ≤ length index.now }
     ensures { result ≡ count_agreeing s.now (words index.now paths) }

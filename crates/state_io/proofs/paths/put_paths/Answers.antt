@@ -9,7 +9,7 @@ overflow_cast-index c = omega (arith, path-within _ _ c.connector_key_end.ensure
 pub loop-i-preserved : goal.loop-i-preserved
 loop-i-preserved c =
     elim c.if-is_marked.branch [
-      then-is_marked w ↦ rw (w.index-is, w.k-is) (putting-next c.loop-i.invariant (omega arith) (λ e. omega arith) w.word_at.ensures w.connector_key_end.ensures)
+      | then-is_marked w ↦ rw (w.index-is, w.k-is) (putting-next c.loop-i.invariant (omega arith) (λ e. omega arith) w.word_at.ensures w.connector_key_end.ensures)
       | else-is_marked w ↦ rw (w.index-is, w.k-is) (putting-skip c.loop-i.invariant (omega arith) (omega arith))
     ]
 
