@@ -66,13 +66,6 @@ module _ {s index : List ℕ} (t : Tabled s index) where
       let o = room t in
       (omega arith, omega arith, omega arith)
 
--- ---- `count_of`
-pub connectors-forward : (s : List ℕ) → table_start 4 (manifest_of s) ≤ table_start 5 (manifest_of s)
-connectors-forward s = omega (arith, (rows (manifest_of s)).connectors)
-
-pub drivers-forward : (s : List ℕ) → table_start 8 (manifest_of s) ≤ table_start 9 (manifest_of s)
-drivers-forward s = omega (arith, (rows (manifest_of s)).drivers)
-
 -- ---- `require_exact_set`
 module _ {section listed : ℕ} {s old new : List ℕ} {r : Bool} (l : Lists section listed s old) (m : MarksListed section listed s r old new) where
   pub marks-leave : Leaves s old new
