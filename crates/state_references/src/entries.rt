@@ -27,10 +27,11 @@ fn find_connector(s: &[u8], index: &[u32], table: Table, at: usize, hint: usize)
     requires { Keyed connectors s.now index.now table.from table.to table.to }
     ensures { is_some result ≡ known_at s.now (keys_at connectors s.now index.now table.from table.to) at }
 {
-    if table.from <= hint && hint < table.to {
-        if same_key(s, Section::CONNECTORS, at, word_at(index, hint)) {
-            return Some(hint + 1);
-        }
+    if table.from <= hint
+        && hint < table.to
+        && same_key(s, Section::CONNECTORS, at, word_at(index, hint))
+    {
+        return Some(hint + 1);
     }
     let key = key_part(s, Section::CONNECTORS, at);
     let w = table.find(s, Section::CONNECTORS, index, key, table.to)?;

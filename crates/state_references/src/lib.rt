@@ -113,17 +113,10 @@ fn ends_alike(s: &[u8], index: &[u32], section: u8, listed: u8) -> bool
     if table.to <= table.from || keys.to <= keys.from {
         return true;
     }
-    same_key(
-        s,
-        section,
-        word_at(index, table.from),
-        word_at(index, keys.from),
-    ) && same_key(
-        s,
-        section,
-        word_at(index, table.to - 1),
-        word_at(index, keys.to - 1),
-    )
+    let first = word_at(index, keys.from);
+    let last = word_at(index, keys.to - 1);
+    same_key(s, section, word_at(index, table.from), first)
+        && same_key(s, section, word_at(index, table.to - 1), last)
 }
 
 // Hints of the blocks, if the schedule needs them.

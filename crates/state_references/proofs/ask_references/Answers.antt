@@ -1,4 +1,4 @@
-use Rattle.state_references.proofs.Placed.{lists-schedule, lists-order}
+use Rattle.state_references.proofs.Placed.{lists-schedule, lists-connectors}
 use Rattle.state_layout.specs.Tables.{manifest_of}
 use Rattle.state_layout.proofs.Indexed.{rows}
 use Rattle.state_references.proofs.Chained.{stops-17, stops-18, stops-19, stops-counted, stops-20, passes-20}
@@ -20,7 +20,7 @@ returns-then-not-require_exact_set-clause-value c =
     ap said (stops-18 c.requires c.entries_hold.ensures c.if-not-entries_hold.false (one.value, one.leaves) c.if-not-require_exact_set.true).0
 
 pub require_exact_set-requires-2 : goal.require_exact_set-requires-2
-require_exact_set-requires-2 c = lists-order c.require_exact_set.ensures.leaves.tabled
+require_exact_set-requires-2 c = lists-connectors c.require_exact_set.ensures.leaves.tabled _ (omega arith)
 
 pub returns-then-not-require_exact_set-2-clause-value : goal.returns-then-not-require_exact_set-2-clause-value
 returns-then-not-require_exact_set-2-clause-value c =

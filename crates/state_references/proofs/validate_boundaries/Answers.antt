@@ -1,13 +1,14 @@
+use native.Mathlib.Omega.{arith}
 use mathlib.Core.Path.{ap}
 use Rattle.state.specs.Outcome.{said}
-use Rattle.state_references.proofs.Placed.{lists-externals}
+use Rattle.state_references.proofs.Placed.{lists-connectors}
 use Rattle.state_references.proofs.Chained.{stops-directed, stops-25, stops-sources, stops-26, passes-26}
 use Rattle.state_references.proofs.validate_boundaries.Goals as goal
 use Rattle.state_references.proofs.validate_boundaries.Goals.{then-not-entries_hold-via-then-not-entries_hold, then-not-entries_hold-via-else-not-entries_hold+then-not-all_listed_new}
 use Rattle.state_references.proofs.validate_boundaries.Goals.{then-not-entries_hold-2-via-then-not-entries_hold-2, then-not-entries_hold-2-via-else-not-entries_hold-2+then-not-names_differ}
 
 pub all_listed_new-requires : goal.all_listed_new-requires
-all_listed_new-requires c = lists-externals c.requires
+all_listed_new-requires c = lists-connectors c.requires _ (omega arith)
 
 pub returns-then-not-entries_hold-clause-value : goal.returns-then-not-entries_hold-clause-value
 returns-then-not-entries_hold-clause-value c =
