@@ -6,20 +6,18 @@ use mathlib.Core.Bool.{Bool, true, false, ◌&&◌, and_assoc}
 use mathlib.Core.List.{List, map}
 use lib.ListN.{length}
 use borrow.Author.Tests.{eq-eqb, ne_eqb}
-use Rattle.state.specs.Bytes.{span}
 use Rattle.format.specs.Lists.{all_different}
 use Rattle.format.specs.Manifest.{numbered}
 use Rattle.format.specs.Fields.{blocks_of, connectors_of, connections_of, schedule_of, connector_order_of, drivers_of, external_inputs_of, boundary_outputs_of, output_name, output_source}
 use Rattle.questions.specs.Sets.{all, all_in, each_once}
 use Rattle.questions.specs.Declarations.{connector_names}
 use Rattle.questions.specs.References.{is_directed, joins, schedule_holds, order_holds, drivers_hold, externals_hold, outputs_hold}
-use Rattle.state_index.specs.Keys.{text_at}
 use Rattle.state_layout.specs.Tables.{manifest_of, table_start, table_of, Tabled}
 use Rattle.state_layout.proofs.Indexed.{rows, table-blocks, table-connectors, table-connections, table-schedule, table-order, table-drivers, table-externals, table-outputs}
 use Rattle.state_layout.proofs.Names.{names-blocks, names-connectors}
 use Rattle.state_references.specs.Known.{holds_at}
 use Rattle.state_references.specs.Listed.{keys_listed, MarksListed}
-use Rattle.state_references.proofs.Valued.{all-join-is, all-drive-is, all-output-is, all-external-is, keys-schedule, keys-order, keys-externals, names-outputs}
+use Rattle.state_references.proofs.Valued.{all-join-is, all-drive-is, all-output-is, all-external-is, keys-schedule, keys-order, keys-externals}
 
 -- ---- one by one, over the tables of any index that was filled
 module _ {s index : List ℕ} (t : Tabled s index) where
@@ -80,7 +78,3 @@ module _ {s index : List ℕ} (t : Tabled s index) where
         → b ≡ outputs_hold (boundary_outputs_of (manifest_of s)) (connectors_of (manifest_of s))
     unfolding outputs_hold
     outputs-answer y e = rw (← sources, y) e
-
-  pub names-answer : {first last : ℕ} → first ≡ table_start 11 (manifest_of s) → last ≡ table_start 12 (manifest_of s) → {r : Bool}
-      → r ≡ all_different (map (text_at s) (span index first last)) → r ≡ all_different (map output_name (boundary_outputs_of (manifest_of s)))
-  names-answer a b e = rw (a, b, names-outputs (table-outputs t)) at e

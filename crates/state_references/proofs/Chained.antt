@@ -1,5 +1,6 @@
 -- The questions one after another, and what they leave of the index.
 use Prim.Native.Nat.{ℕ, ◌-◌}
+use native.Mathlib.Omega.{arith}
 use mathlib.Core.Path.{◌≡◌, refl, sym, ◌∙◌}
 use mathlib.Core.Bool.{Bool, true, false}
 use mathlib.Core.List.{List, [], ◌∷◌, map}
@@ -15,7 +16,7 @@ use Rattle.state_layout.specs.Tables.{manifest_of, table_start, table_of, Tabled
 use Rattle.state_layout.proofs.Indexed.{leaves_all, leaves-then}
 use Rattle.state_references.specs.Known.{holds_at}
 use Rattle.state_references.specs.Listed.{keys_listed, MarksListed}
-use Rattle.state_references.proofs.Placed.{marks-leave, lists-externals}
+use Rattle.state_references.proofs.Placed.{marks-leave, lists-connectors}
 use Rattle.state_references.proofs.Answered.{joins-answer, schedule-answer, order-answer, drivers-other, drivers-answer, externals-other, externals-answer, outputs-other, outputs-answer}
 
 -- what a function answered of a question, where it was asked for no
@@ -94,7 +95,7 @@ module _ {s i₀ : List ℕ} (t : Tabled s i₀) {r₁ : Bool} (e₁ : r₁ ≡ 
 
   module _ (n₁ : r₁ ≡ true) {r₂ : Bool} {i₁ : List ℕ} (e₂ : MarksListed 4 10 s r₂ i₀ i₁) where
     leaves-25 : Leaves s i₀ i₁
-    leaves-25 = marks-leave (lists-externals t) e₂
+    leaves-25 = marks-leave (lists-connectors t 10 (omega arith)) e₂
 
     externals-said : r₂ ≡ externals_hold (external_inputs_of (manifest_of s)) (connectors_of (manifest_of s))
     externals-said = externals-answer t e₁ n₁ e₂

@@ -11,7 +11,7 @@ use Rattle.questions.specs.Sets.{all, each_once}
 use Rattle.state_index.specs.declared.Table.{Table}
 use Rattle.state_layout.specs.Tables.{table_at, manifest_of, table_start, room_start, Tabled, Leaves}
 use Rattle.state_layout.specs.Marks.{is_set, Keyed}
-use Rattle.state_layout.proofs.Indexed.{rows, room, start-there, tabled-kept, table-blocks, table-connectors}
+use Rattle.state_layout.proofs.Indexed.{rows, room, start-le, start-there, tabled-kept, table-blocks, table-connectors}
 use Rattle.state_layout.proofs.Names.{table-keyed}
 use Rattle.state_references.specs.Listed.{keys_listed, Lists, MarksListed}
 use Rattle.state_references.proofs.Meeting.{once-not, once-all}
@@ -41,22 +41,16 @@ module _ {s index : List ℕ} (t : Tabled s index) where
         below = omega arith;
       }
 
-  lists-connectors : (listed : ℕ) → listed ≤ 12 → table_start (suc listed) (manifest_of s) ≤ room_start s → Lists 4 listed s index
+  pub lists-connectors : (listed : ℕ) → listed ≤ 12 → Lists 4 listed s index
   unfolding numbered
-  lists-connectors listed h k =
+  lists-connectors listed h =
       let r = rows (manifest_of s) in
       record {
         tabled = t;
         keyed = keyed-connectors (room_start s) (omega arith) (omega arith);
         known = (omega arith, h);
-        below = k;
+        below = start-le (manifest_of s) (suc listed) (omega arith);
       }
-
-  pub lists-order : Lists 4 7 s index
-  lists-order = let r = rows (manifest_of s) in lists-connectors 7 (omega arith) (omega arith)
-
-  pub lists-externals : Lists 4 10 s index
-  lists-externals = let r = rows (manifest_of s) in lists-connectors 10 (omega arith) (omega arith)
 
   -- ---- `names_differ`
   pub differ-requires : let first = table_start 11 (manifest_of s) in let last = table_start 12 (manifest_of s) in
@@ -65,13 +59,6 @@ module _ {s index : List ℕ} (t : Tabled s index) where
       let r = rows (manifest_of s) in
       let o = room t in
       (omega arith, omega arith, omega arith)
-
--- ---- `count_of`
-pub connectors-forward : (s : List ℕ) → table_start 4 (manifest_of s) ≤ table_start 5 (manifest_of s)
-connectors-forward s = omega (arith, (rows (manifest_of s)).connectors)
-
-pub drivers-forward : (s : List ℕ) → table_start 8 (manifest_of s) ≤ table_start 9 (manifest_of s)
-drivers-forward s = omega (arith, (rows (manifest_of s)).drivers)
 
 -- ---- `require_exact_set`
 module _ {section listed : ℕ} {s old new : List ℕ} {r : Bool} (l : Lists section listed s old) (m : MarksListed section listed s r old new) where

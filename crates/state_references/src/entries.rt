@@ -2,7 +2,7 @@
 ghost use Rattle.std.specs.Prelude.{◌≡◌, ◌≤◌, length, is_some};
 ghost use Rattle.state.specs.Bytes.{span};
 ghost use Rattle.format.specs.Lists.{same};
-ghost use Rattle.format.specs.Manifest.{connectors};
+ghost use Rattle.format.specs.Manifest.{connectors, numbered};
 ghost use Rattle.format.specs.Places.{key_at};
 ghost use Rattle.questions.specs.Sets.{all};
 ghost use Rattle.state_layout.specs.Marks.{Keyed, keys_at};
@@ -12,28 +12,26 @@ use state::{Section, WireDir};
 use state_index::keys::{block_key_end, byte_at, connector_key_end};
 use state_index::{Table, key_part, text_end, word_at};
 use state_key_order::same_bytes;
-use state_wire::part;
 
-// Have the connectors at two positions the same key?
-fn same_connector(s: &[u8], a: usize, b: usize) -> bool
-    ensures { result ≡ same (key_at connectors s.now a) (key_at connectors s.now b) }
+// Have the entries of a section at two positions the same key?
+pub(crate) fn same_key(s: &[u8], section: u8, a: usize, b: usize) -> bool
+    ensures { result ≡ same (key_at (numbered section) s.now a) (key_at (numbered section) s.now b) }
 {
-    same_bytes(
-        part(s, a, connector_key_end(s, a)),
-        part(s, b, connector_key_end(s, b)),
-    )
+    same_bytes(key_part(s, section, a), key_part(s, section, b))
 }
 
 // Looks in the table for the connector whose key stands at a position, and gives the word after it: the one to try next, as keys ascend. The
 // hint's word is compared here, so `find` is given `table.to`, which is none of them.
+#[tactic(auto, unfolding(crate::specs::Known::known_at, format::specs::Manifest::numbered))]
 fn find_connector(s: &[u8], index: &[u32], table: Table, at: usize, hint: usize) -> Option<usize>
     requires { Keyed connectors s.now index.now table.from table.to table.to }
     ensures { is_some result ≡ known_at s.now (keys_at connectors s.now index.now table.from table.to) at }
 {
-    if table.from <= hint && hint < table.to {
-        if same_connector(s, at, word_at(index, hint)) {
-            return Some(hint + 1);
-        }
+    if table.from <= hint
+        && hint < table.to
+        && same_key(s, Section::CONNECTORS, at, word_at(index, hint))
+    {
+        return Some(hint + 1);
     }
     let key = key_part(s, Section::CONNECTORS, at);
     let w = table.find(s, Section::CONNECTORS, index, key, table.to)?;
@@ -41,6 +39,7 @@ fn find_connector(s: &[u8], index: &[u32], table: Table, at: usize, hint: usize)
 }
 
 // The same, where the key is of this direction.
+#[tactic(auto, unfolding(crate::specs::Known::directed_at))]
 fn find_directed(
     s: &[u8],
     index: &[u32],
@@ -59,6 +58,7 @@ fn find_directed(
 }
 
 // Is the connector key at a position of a direction?
+#[tactic(auto, unfolding(crate::specs::Known::of_way))]
 fn is_of_way(s: &[u8], way: u8, at: usize) -> bool
     ensures { result ≡ of_way s.now way at }
 {
@@ -66,6 +66,7 @@ fn is_of_way(s: &[u8], way: u8, at: usize) -> bool
 }
 
 // Whether what is asked of an entry of a section holds: if so, the word to try first for the next entry.
+#[tactic(auto, unfolding(crate::specs::Known::holds_at, crate::specs::Known::joins_at, crate::specs::Known::drives_at))]
 fn holds(
     s: &[u8],
     index: &[u32],

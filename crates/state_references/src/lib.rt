@@ -4,7 +4,7 @@
 mod entries;
 mod sets;
 
-ghost use Rattle.std.specs.Prelude.{◌≡◌, map, suc, ◌-◌, ◌≤◌, ◌<◌, length};
+ghost use Rattle.std.specs.Prelude.{◌≡◌, map, suc, ◌-◌, ◌≤◌};
 ghost use Rattle.state.specs.Outcome.{said};
 ghost use Rattle.format.specs.Lists.{all_different};
 ghost use Rattle.format.specs.Fields.{connectors_of, boundary_outputs_of, output_name};
@@ -15,11 +15,10 @@ ghost use Rattle.state_layout.specs.Tables.{manifest_of, table_start, table_of, 
 ghost use Rattle.state_references.specs.Known.{holds_at};
 ghost use Rattle.state_references.specs.Listed.{keys_listed, Lists, MarksListed};
 
-use entries::all_hold;
+use entries::{all_hold, same_key};
 use sets::{all_new, texts_differ};
 use state::{Question, Section};
-use state_index::{key_part, word_at};
-use state_key_order::same_bytes;
+use state_index::word_at;
 use state_layout::hints::put_hints;
 use state_layout::marks::all_marked;
 use state_layout::{table_at, table_start};
@@ -103,16 +102,6 @@ fn ask_references(s: &[u8], index: &mut [u32]) -> Result<(), Question>
     Ok(())
 }
 
-// Are the keys at two words the same?
-fn same_at(s: &[u8], index: &[u32], section: u8, a: usize, b: usize) -> bool
-    requires { (a < length index.now) × (b < length index.now) }
-{
-    same_bytes(
-        key_part(s, section, word_at(index, a)),
-        key_part(s, section, word_at(index, b)),
-    )
-}
-
 // Whether a section that lists keys of another begins and ends with that one's first and last. Then they are most likely in order, so that
 // no hints are needed; it promises nothing.
 fn ends_alike(s: &[u8], index: &[u32], section: u8, listed: u8) -> bool
@@ -124,8 +113,10 @@ fn ends_alike(s: &[u8], index: &[u32], section: u8, listed: u8) -> bool
     if table.to <= table.from || keys.to <= keys.from {
         return true;
     }
-    same_at(s, index, section, table.from, keys.from)
-        && same_at(s, index, section, table.to - 1, keys.to - 1)
+    let first = word_at(index, keys.from);
+    let last = word_at(index, keys.to - 1);
+    same_key(s, section, word_at(index, table.from), first)
+        && same_key(s, section, word_at(index, table.to - 1), last)
 }
 
 // Hints of the blocks, if the schedule needs them.
@@ -155,16 +146,12 @@ pub fn validate_boundaries(s: &[u8], index: &mut [u32]) -> Result<(), Question>
     ensures value { result ≡ said (first (boundaries (manifest_of s.now))) }
     ensures leaves { Leaves s.now index.old index.new }
 {
-    if !entries_hold(s, index, Section::EXTERNAL_INPUTS) {
+    if !entries_hold(s, index, Section::EXTERNAL_INPUTS)
+        || !all_listed_new(s, index, Section::CONNECTORS, Section::EXTERNAL_INPUTS)
+    {
         return Err(Question(25));
     }
-    if !all_listed_new(s, index, Section::CONNECTORS, Section::EXTERNAL_INPUTS) {
-        return Err(Question(25));
-    }
-    if !entries_hold(s, index, Section::BOUNDARY_OUTPUTS) {
-        return Err(Question(26));
-    }
-    if !names_differ(s, index) {
+    if !entries_hold(s, index, Section::BOUNDARY_OUTPUTS) || !names_differ(s, index) {
         return Err(Question(26));
     }
     Ok(())

@@ -1,15 +1,6 @@
-use Rattle.state_references.proofs.Meeting.{meets-start, meets-fits, meets-next, meets-stop, meets-end}
+use Rattle.state_references.proofs.Meeting.{meets-next, meets-stop, meets-end}
 use native.Mathlib.Omega.{arith}
 use Rattle.state_references.proofs.sets.mark_all.Goals as goal
-
-pub loop-i-init : goal.loop-i-init
-loop-i-init c = meets-start c.requires.marked c.requires.listed_le_marks
-
-pub word_at-requires : goal.word_at-requires
-word_at-requires c = omega (arith, meets-fits c.loop-i.invariant)
-
-pub mark_new-requires : goal.mark_new-requires
-mark_new-requires c = c.loop-i.invariant.marked.keyed
 
 pub returns-in_default : goal.returns-in_default
 returns-in_default c =
