@@ -1,12 +1,16 @@
 -- Questions 31 and 32 of a manifest that was read, from what the code finds in its bytes.
-use Prim.Native.Nat.{ℕ, zero, suc, ◌+◌, ◌≤◌, ◌<◌, min}
+use Prim.Native.Nat.{ℕ, zero, suc, ◌+◌, ◌-◌, ◌≤◌, ◌<◌, min}
 use native.Mathlib.Omega.{arith}
 use mathlib.Core.Path.{◌≡◌, refl, sym, ap, ◌∙◌}
-use mathlib.Core.Bool.{Bool, true, false, not, cond, ◌&&◌, ◌||◌}
+use mathlib.Core.Bool.{Bool, true, false, not, beq, cond, ◌&&◌, ◌||◌}
 use mathlib.Core.List.{List, [], ◌∷◌}
 use lib.ListN.{length, get_or}
-use lib.Dec.{ltb, eqb}
-use borrow.Author.Tests.{eq-eqb, ne_eqb, lt-ltb}
+use lib.Dec.{leb, ltb, eqb}
+use borrow.Author.Tests.{eqb-true, ne_eqb, lt-ltb, leb-true, leb-false}
+use Rattle.std.specs.Prelude.{Result, Ok, Err}
+use Rattle.std.specs.List.{list_any, range_with_len}
+use Rattle.state.specs.declared.Question.{Question}
+use Rattle.state.specs.Outcome.{said}
 use Rattle.state.specs.Bytes.{span}
 use Rattle.state.proofs.Bytes.{span-cons, span_none}
 use Rattle.format.specs.Lists.{is_in}
@@ -19,61 +23,56 @@ use Rattle.format.specs.Values.{value_at}
 use Rattle.questions.specs.Sets.{any, all, ◌unless◌, first}
 use Rattle.questions.specs.Portability.{some_bound, tag_holds, target_holds, portability_holds, target_bound_classes}
 use Rattle.questions.proofs.Chains.{says-yes, says-no}
-use Rattle.state_layout.specs.Tables.{manifest_of, table_start, Tabled}
-use Rattle.state_layout.proofs.Indexed.{table-blocks}
+use Rattle.state_index.specs.declared.Table.{Table as Place}
+use Rattle.state_layout.specs.Tables.{manifest_of, table_at, Tabled}
+use Rattle.state_layout.proofs.Indexed.{table-blocks, start-there}
 use Rattle.state_portability.specs.Bound.{some_bound_at}
 
--- ---- the loop over blocks: none of those before word i is bound
-pub record Unbound (bound : List (List ℕ)) (s index : List ℕ) (from to i : ℕ) : Type 0 where
-  pub within : to ≤ length index
-  pub rest : some_bound_at bound s (span index from to) ≡ some_bound_at bound s (span index i to)
+-- ---- the words that list blocks
+module _ (bound : List (List ℕ)) (s index : List ℕ) where
+  abbrev pub bound_word : ℕ → Bool
+  bound_word i = is_in (value_at text s (past block_key s (get_or index i 0))) bound
 
-module _ {bound : List (List ℕ)} {s index : List ℕ} {from to i : ℕ} (u : Unbound bound s index from to i) (h : i < to)
-    {p at : ℕ} {class : List ℕ} {b : Bool} (word : p ≡ get_or index i 0) (key : at ≡ past block_key s p) (reads : class ≡ value_at text s at) (asks : b ≡ is_in class bound) where
-  one : some_bound_at bound s (span index i to) ≡ (b || some_bound_at bound s (span index (i + 1) to))
+  some-words : (n from : ℕ) → from + n ≤ length index → list_any bound_word (range_with_len from n) ≡ some_bound_at bound s (span index from (from + n))
   unfolding some_bound any class_path block_rest block_head value_at
-  one = rw (span-cons index i to h u.within, asks, reads, key, word)
+  some-words zero from h = rw (← span_none index from (from + 0) (omega arith))
+  some-words (suc n) from h =
+      let e : from + 1 + n ≡ from + suc n = omega arith in
+      rw (span-cons index from (from + suc n) (omega arith) h, some-words n (from + 1) (omega arith), e)
 
-  pub bound-found : b ≡ true → true ≡ some_bound_at bound s (span index from to)
-  bound-found e = sym (u.rest ∙ one ∙ rw e)
-
-  pub bound-next : b ≡ false → Unbound bound s index from to (i + 1)
-  bound-next e = record { within = u.within; rest = u.rest ∙ one ∙ rw e }
-
-pub bound-none : {bound : List (List ℕ)} {s index : List ℕ} {from to i : ℕ} → Unbound bound s index from to i → to ≤ i → false ≡ some_bound_at bound s (span index from to)
-unfolding some_bound any
-bound-none {bound} {s} {index} {from} {to} {i} u h = sym (u.rest ∙ ap (some_bound_at bound s) (sym (span_none index i to h)))
+  pub some-listed : (from to : ℕ) → to ≤ length index → list_any bound_word (range_with_len from (to - from)) ≡ some_bound_at bound s (span index from to)
+  unfolding some_bound any
+  some-listed from to h = go (leb from to) refl
+    where
+      go : (b : Bool) → leb from to ≡ b → list_any bound_word (range_with_len from (to - from)) ≡ some_bound_at bound s (span index from to)
+      go true e =
+          let l : from ≤ to = leb-true from to e in
+          let q : from + (to - from) ≡ to = omega arith in
+          some-words (to - from) from (omega arith) ∙ ap (λ (n : ℕ). some_bound_at bound s (span index from n)) q
+      go false e = let l : to < from = leb-false from to e in let z : to - from ≡ 0 = omega arith in rw z
 
 -- ---- question 31
-pub tag-unasked : (s : List ℕ) {revision : ℕ} → (revision ≡ 2 → ⊥) → true ≡ tag_holds target_bound_classes revision (manifest_of s)
+pub tag_unasked : (s : List ℕ) (revision : ℕ) → eqb revision 2 ≡ false → true ≡ tag_holds target_bound_classes revision (manifest_of s)
 unfolding tag_holds
-tag-unasked s {revision} n = rw (ne_eqb revision 2 n)
+tag_unasked s revision e = rw e
 
-module _ {s index : List ℕ} {revision : ℕ} where
-  module _ (t : Tabled s index) (asked : revision ≡ 2) {from to : ℕ} {b : Bool} {tag : ℕ} (starts : from ≡ table_start 3 (manifest_of s)) (ends : to ≡ table_start 4 (manifest_of s))
-      (some : b ≡ some_bound_at target_bound_classes s (span index from to)) (reads : tag ≡ get_or s 0 0) where
-    some_is : b ≡ some_bound target_bound_classes (blocks_of (manifest_of s))
-    some_is = some ∙ rw (starts, ends) (ap (some_bound target_bound_classes) (table-blocks t).values)
+module _ {s index : List ℕ} (t : Tabled s index) {blocks : Place} (is : blocks ≡ table_at 3 (manifest_of s)) where
+  pub blocks_within : blocks.to ≤ length index
+  blocks_within = rw is (start-there t 4 (omega arith))
 
-    tag_is : tag ≡ portability_tag (portability_of (manifest_of s))
-    unfolding value_at manifest portability_of portability_tag portability
-    tag_is = reads
+  pub tag_asked : (revision : ℕ) → eqb revision 2 ≡ true → {b : Bool} → b ≡ some_bound_at target_bound_classes s (span index blocks.from blocks.to) → {tag : ℕ} → tag ≡ get_or s 0 0
+      → beq b (eqb tag 1) ≡ tag_holds target_bound_classes revision (manifest_of s)
+  unfolding tag_holds value_at manifest portability_of portability_tag portability
+  tag_asked revision asked {b} some {tag} reads = rw (asked, ← some_is, ← reads) (either b (eqb tag 1))
+    where
+      some_is : b ≡ some_bound target_bound_classes (blocks_of (manifest_of s))
+      some_is = some ∙ rw is (ap (some_bound target_bound_classes) (table-blocks t).values)
 
-    pub tag-bound : tag ≡ 1 → b ≡ tag_holds target_bound_classes revision (manifest_of s)
-    unfolding tag_holds
-    tag-bound e = rw (eq-eqb revision 2 asked, ← some_is, ← tag_is, eq-eqb tag 1 e) (yes b)
-      where
-        yes : (b : Bool) → b ≡ cond b true false
-        yes true = refl
-        yes false = refl
-
-    pub tag_free : (tag ≡ 1 → ⊥) → not b ≡ tag_holds target_bound_classes revision (manifest_of s)
-    unfolding tag_holds
-    tag_free n = rw (eq-eqb revision 2 asked, ← some_is, ← tag_is, ne_eqb tag 1 n) (no_one b)
-      where
-        no_one : (b : Bool) → not b ≡ cond b false true
-        no_one true = refl
-        no_one false = refl
+      either : (b t : Bool) → beq b t ≡ cond b t (not t)
+      either true true = refl
+      either true false = refl
+      either false true = refl
+      either false false = refl
 
 -- ---- question 32: by the tag, and the texts behind it
 names : (s : List ℕ) (t p : ℕ) → List (List ℕ)
@@ -102,21 +101,22 @@ module _ (s : List ℕ) {tag : ℕ} (reads : tag ≡ get_or s 0 0) where
   unfolding target_holds all
   target_none n = rw (targets, no_names tag n)
 
-  module _ (bound : tag ≡ 1) {arch : ℕ} {x : List ℕ} (starts : arch ≡ min (0 + 1) (length s)) (first : x ≡ value_at text s arch) where
-    both-names : {os : ℕ} {y : List ℕ} → os ≡ past text s arch → y ≡ value_at text s os → target (portability_of (manifest_of s)) ≡ x ∷ y ∷ []
+  module _ (bound : tag ≡ 1) {arch : ℕ} {x : List ℕ} (starts : arch ≡ min 1 (length s)) (first : x ≡ value_at text s arch) where
+    names-are : target (portability_of (manifest_of s)) ≡ x ∷ value_at text s (past text s arch) ∷ []
     unfolding names
-    both-names e f = rw (targets, bound, first, f, e, starts)
+    names-are = rw (targets, bound, first, starts)
 
-    pub arch-none : length x ≡ 0 → false ≡ target_holds (portability_of (manifest_of s))
+    pub arch_none : eqb (length x) 0 ≡ true → false ≡ target_holds (portability_of (manifest_of s))
     unfolding target_holds all
-    arch-none e = rw (both-names refl refl, e)
+    arch_none e = rw (names-are, eqb-true (length x) 0 e)
 
-    pub os-there : {os : ℕ} {y : List ℕ} → os ≡ past text s arch → y ≡ value_at text s os → (length x ≡ 0 → ⊥) → not (eqb (length y) 0) ≡ target_holds (portability_of (manifest_of s))
+    pub os_there : eqb (length x) 0 ≡ false → {os : ℕ} {y : List ℕ} → os ≡ past text s arch → y ≡ value_at text s os → not (eqb (length y) 0) ≡ target_holds (portability_of (manifest_of s))
     unfolding target_holds all
-    os-there {os} {y} e f n = rw (both-names e f, some (length x) n) (also (length y))
+    os_there e {os} {y} i j = rw (names-are, ← i, ← j, some (length x), e) (also (length y))
       where
-        some : (k : ℕ) → (k ≡ 0 → ⊥) → ltb 0 k ≡ true
-        some k m = lt-ltb 0 k (omega (arith, m))
+        some : (k : ℕ) → ltb 0 k ≡ not (eqb k 0)
+        some zero = refl
+        some (suc k) = lt-ltb 0 (suc k) (omega arith) ∙ rw (ne_eqb (suc k) 0 (λ z. absurd (omega (arith, z))))
 
         also : (k : ℕ) → not (eqb k 0) ≡ (ltb 0 k && true)
         also zero = refl
@@ -124,21 +124,18 @@ module _ (s : List ℕ) {tag : ℕ} (reads : tag ≡ get_or s 0 0) where
 
 -- ---- both
 module _ (revision : ℕ) (m : El manifest) {b : Bool} (e : b ≡ tag_holds target_bound_classes revision m) where
-  pub tag-says-no : b ≡ false → 31 ≡ first (portability_holds target_bound_classes revision m)
+  pub tag_no : b ≡ false → Err (record { 0 = 31 }) ≡ said (first (portability_holds target_bound_classes revision m))
   unfolding portability_holds
-  tag-says-no f = says-no 30 _ (sym e ∙ f)
+  tag_no f = ap said (says-no 30 _ (sym e ∙ f))
 
   module _ (f : b ≡ true) {c : Bool} (g : c ≡ target_holds (portability_of m)) where
     goes_on : first (portability_holds target_bound_classes revision m) ≡ first ((32 unless target_holds (portability_of m)) ∷ [])
     unfolding portability_holds
     goes_on = says-yes 31 _ (sym e ∙ f)
 
-    pub target-says-no : c ≡ false → 32 ≡ first (portability_holds target_bound_classes revision m)
-    target-says-no h = says-no 31 [] (sym g ∙ h) ∙ sym goes_on
+    pub target_no : c ≡ false → Err (record { 0 = 32 }) ≡ said (first (portability_holds target_bound_classes revision m))
+    target_no h = ap said (says-no 31 [] (sym g ∙ h) ∙ sym goes_on)
 
-    pub both-say-yes : c ≡ true → 0 ≡ first (portability_holds target_bound_classes revision m)
+    pub both_yes : c ≡ true → Ok tt ≡ said (first (portability_holds target_bound_classes revision m))
     unfolding first
-    both-say-yes h = sym (goes_on ∙ says-yes 32 [] (sym g ∙ h))
-
--- for `tag_holds`, where 31 is not asked
-pub ruleset unasked = (tag-unasked)
+    both_yes h = ap said (sym (goes_on ∙ says-yes 32 [] (sym g ∙ h)))

@@ -2,95 +2,71 @@
 use Prim.Native.Nat.{ℕ, zero, suc, ◌+◌, ◌-◌, ◌<◌, ◌≤◌}
 use native.Mathlib.Omega.{arith}
 use mathlib.Core.Path.{◌≡◌, refl, sym, ap, ◌∙◌, subst}
-use mathlib.Core.Bool.{Bool, true, false}
+use mathlib.Core.Bool.{Bool, true, false, ◌&&◌}
 use mathlib.Core.List.{List, [], ◌∷◌, ◌++◌, map}
-use lib.ListN.{length, get_or, drop, drop_of_length-le, replicate, get_or-append}
-use lib.Seq.{drop-length, drop-cons}
+use lib.ListN.{length, get_or, take, replicate}
+use lib.Seq.{take-append_seam}
 use lib.Dec.{leb}
 use borrow.Author.Tests.{leb-true}
 use Rattle.text.proofs.Blocks.{both}
 use Rattle.format.specs.Lists.{same, is_in}
-use Rattle.format.proofs.Lists.{same_refl, same-apart}
+use Rattle.format.proofs.Lists.{same-lengths, same-apart}
+use Rattle.state_portability.specs.declared.TheConstants.{TARGET_BOUND_LENGTHS, TARGET_BOUND_ENDS, TARGET_BOUND_CLASSES}
 use Rattle.questions.specs.Sets.{all}
+use Rattle.questions.specs.Portability.{ascii, target_bound_classes}
 
 -- a name, and zeros behind it
 abbrev pub pad : (b : ℕ) → List ℕ → List ℕ
 pad b n = n ++ replicate (b - length n) 0
 
-pub row_is : (b : ℕ) (names : List (List ℕ)) (k i : ℕ) → i < length (get_or names k []) → get_or (get_or (map (pad b) names) k []) i 0 ≡ get_or (get_or names k []) i 0
-row_is b [] k i h = refl
-row_is b (n ∷ ns) zero i h = get_or-append n (replicate (b - length n) 0) 0 i h
-row_is b (n ∷ ns) (suc k) i h = row_is b ns k i h
+-- what a test says of each name
+each-is : (t : List ℕ → Bool) (names : List (List ℕ)) → all t names ≡ true → (k : ℕ) → k < length names → t (get_or names k []) ≡ true
+unfolding all
+each-is t [] e k h = absurd (omega arith)
+each-is t (n ∷ ns) e zero h = (both (t n) (all t ns) e).0
+each-is t (n ∷ ns) e (suc k) h = each-is t ns (both (t n) (all t ns) e).1 k (omega arith)
 
-pub length-is : (names : List (List ℕ)) (k : ℕ) → get_or (map length names) k 0 ≡ length (get_or names k [])
-length-is [] k = refl
-length-is (n ∷ ns) zero = refl
-length-is (n ∷ ns) (suc k) = length-is ns k
+-- what a list made of the names has at a name's place
+at-name : {A : Type 0} (f : List ℕ → A) (d : A) → f [] ≡ d → (names : List (List ℕ)) (k : ℕ) → get_or (map f names) k d ≡ f (get_or names k [])
+at-name f d e [] k = sym e
+at-name f d e (n ∷ ns) zero = refl
+at-name f d e (n ∷ ns) (suc k) = at-name f d e ns k
+
+row-pad : (names : List (List ℕ)) (k : ℕ) → take (length (get_or names k [])) (get_or (map (pad 46) names) k []) ≡ get_or names k []
+row-pad [] k = refl
+row-pad (n ∷ ns) zero = take-append_seam n (replicate (46 - length n) 0)
+row-pad (n ∷ ns) (suc k) = row-pad ns k
 
 -- the last byte of a name
-abbrev pub last_of : List ℕ → ℕ
+abbrev last_of : List ℕ → ℕ
 last_of n = get_or n (length n - 1) 0
 
-pub last-is : (names : List (List ℕ)) (k : ℕ) → get_or (map last_of names) k 0 ≡ last_of (get_or names k [])
-last-is [] k = refl
-last-is (n ∷ ns) zero = refl
-last-is (n ∷ ns) (suc k) = last-is ns k
+-- ---- the rows of the classes that depend on the target
+module _ (k : ℕ) where
+  abbrev row : List ℕ
+  row = get_or target_bound_classes k []
 
-pub short : (b : ℕ) (names : List (List ℕ)) → all (λ n. leb (length n) b) names ≡ true → (k : ℕ) → length (get_or names k []) ≤ b
-unfolding all
-short b [] e k = omega arith
-short b (n ∷ ns) e zero = leb-true (length n) b (both (leb (length n) b) (all (λ n. leb (length n) b) ns) e).0
-short b (n ∷ ns) e (suc k) = short b ns (both (leb (length n) b) (all (λ n. leb (length n) b) ns) e).1 k
+  pub row_long : get_or TARGET_BOUND_LENGTHS k 0 ≡ length row
+  unfolding target_bound_classes ascii
+  row_long = at-name length 0 refl target_bound_classes k
 
--- ---- two byte strings compared from the last byte on: those from i on agree
-pub record Agrees (x y : List ℕ) (i : ℕ) : Type 0 where
-  pub lengths : length x ≡ length y
-  pub within : i ≤ length x
-  pub from : drop i x ≡ drop i y
+  pub row_end : get_or TARGET_BOUND_ENDS k 0 ≡ last_of row
+  unfolding target_bound_classes ascii
+  row_end = at-name last_of 0 refl target_bound_classes k
 
-pub agrees_start : (x y : List ℕ) {n : ℕ} → n ≡ length y → length x ≡ n → Agrees x y n
-agrees_start x y e h =
-    let l : length x ≡ length y = h ∙ e in
-    record { lengths = l; within = omega arith; from = rw (← h, drop-length x, l, drop-length y) }
+  pub row_front : take (get_or TARGET_BOUND_LENGTHS k 0) (get_or TARGET_BOUND_CLASSES k []) ≡ row
+  unfolding target_bound_classes ascii
+  row_front = ap (λ (n : ℕ). take n (get_or TARGET_BOUND_CLASSES k [])) row_long ∙ row-pad target_bound_classes k
 
-module _ {x y : List ℕ} {i : ℕ} (a : Agrees x y i) (h : 0 < i) where
-  pub agrees-within : i - 1 < length y
-  agrees-within = omega (arith, a.within, a.lengths)
+  pub row_fits : k < 15 → (1 ≤ length row) × (length row ≤ 46)
+  unfolding target_bound_classes ascii all
+  row_fits h =
+      let p = both (leb 1 (length row)) (leb (length row) 46) (each-is (λ n. leb 1 (length n) && leb (length n) 46) target_bound_classes refl k h) in
+      (leb-true 1 (length row) p.0, leb-true (length row) 46 p.1)
 
-  pub agrees-next : get_or x (i - 1) 0 ≡ get_or y (i - 1) 0 → Agrees x y (i - 1)
-  agrees-next e =
-      let s : suc (i - 1) ≡ i = omega arith in
-      record {
-        lengths = a.lengths;
-        within = omega (arith, a.within);
-        from = rw (drop-cons x (i - 1) 0 (omega (arith, a.within)), drop-cons y (i - 1) 0 agrees-within, e, s, a.from);
-      }
+  module _ (class : List ℕ) where
+    pub other_length : (length class ≡ get_or TARGET_BOUND_LENGTHS k 0 → ⊥) → false ≡ same class row
+    other_length h = sym (same-lengths class row (λ e. h (e ∙ sym row_long)))
 
-  pub agrees-not : (get_or x (i - 1) 0 ≡ get_or y (i - 1) 0 → ⊥) → false ≡ same x y
-  agrees-not n = sym (same-apart x y (λ e. n (ap (λ l. get_or l (i - 1) 0) e)))
-
-pub agrees-all : {x y : List ℕ} {i : ℕ} → Agrees x y i → i ≤ 0 → true ≡ same x y
-agrees-all {x} {y} {i} a h =
-    let z : i ≡ 0 = omega arith in
-    let e : x ≡ y = subst (λ (n : ℕ). drop n x ≡ drop n y) z a.from in
-    rw e (sym (same_refl y))
-
--- ---- a list searched from the front: none of the first k is x
-pub record Missed (x : List ℕ) (names : List (List ℕ)) (k : ℕ) : Type 0 where
-  pub rest : is_in x names ≡ is_in x (drop k names)
-
-module _ {x : List ℕ} {names : List (List ℕ)} {k : ℕ} (m : Missed x names k) (h : k < length names) where
-  pub missed-next : {b : Bool} → b ≡ same x (get_or names k []) → b ≡ false → Missed x names (k + 1)
-  unfolding is_in
-  missed-next e f =
-      let s : suc k ≡ k + 1 = omega arith in
-      let r : is_in x (drop k names) ≡ is_in x (drop (suc k) names) = ap (is_in x) (drop-cons names k [] h) ∙ rw (← e, f) in
-      record { rest = m.rest ∙ r ∙ ap (λ (n : ℕ). is_in x (drop n names)) s }
-
-  pub missed-found : {b : Bool} → b ≡ same x (get_or names k []) → b ≡ true → true ≡ is_in x names
-  unfolding is_in
-  missed-found e f = rw (m.rest, drop-cons names k [] h, ← e, f)
-
-pub missed-all : {x : List ℕ} {names : List (List ℕ)} {k : ℕ} → Missed x names k → length names ≤ k → false ≡ is_in x names
-unfolding is_in
-missed-all {x} {names} {k} m h = rw (m.rest, drop_of_length-le names h)
+    pub other_end : (get_or class (get_or TARGET_BOUND_LENGTHS k 0 - 1) 0 ≡ get_or TARGET_BOUND_ENDS k 0 → ⊥) → false ≡ same class row
+    other_end h = sym (same-apart class row (λ e. h (rw (row_end, row_long, e))))

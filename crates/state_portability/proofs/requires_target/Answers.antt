@@ -1,30 +1,14 @@
-use Rattle.state_portability.proofs.Padded.{missed-next, missed-found, missed-all}
-use Rattle.questions.specs.Portability.{target_bound_classes}
-use mathlib.Core.Path.{refl}
-use native.Mathlib.Omega.{arith}
+use mathlib.Core.List.{[]}
+use mathlib.Core.Path.{refl, ◌∙◌}
+use lib.ListN.{get_or}
+use Rattle.std.proofs.Common.{rules}
+use Rattle.std.proofs.lemmas.Iterator.{YieldsList-from_range}
+use Rattle.std.proofs.lemmas.Iterator.Search.{any_from_yields_List}
+use Rattle.format.specs.Lists.{same, is_in}
+use Rattle.questions.specs.Portability.{target_bound_classes, ascii}
 use Rattle.state_portability.proofs.requires_target.Goals as goal
 
-pub loop-row-init : goal.loop-row-init
-loop-row-init c = record { rest = refl }
-
-pub is_row-requires : goal.is_row-requires
-unfolding target_bound_classes
-is_row-requires c = c.loop-row-test.true
-
-pub returns-then-is_row : goal.returns-then-is_row
-unfolding target_bound_classes
-returns-then-is_row c = missed-found c.loop-row.invariant c.loop-row-test.true c.is_row.ensures c.if-is_row.true
-
-pub overflow_add-row : goal.overflow_add-row
-overflow_add-row c = omega (arith, c.loop-row-test.true)
-
-pub loop-row-smaller : goal.loop-row-smaller
-loop-row-smaller c = omega (arith, c.loop-row-test.true)
-
-pub loop-row-preserved : goal.loop-row-preserved
-unfolding target_bound_classes
-loop-row-preserved c = missed-next c.loop-row.invariant c.loop-row-test.true c.is_row.ensures c.if-is_row.false
-
 pub returns : goal.returns
-unfolding target_bound_classes
-returns c = missed-all c.loop-row.invariant c.loop-row-test.false
+unfolding is_in target_bound_classes ascii
+returns c =
+    any_from_yields_List (λ row. same c.args.class.now (get_or target_bound_classes row [])) _ _ c.any.result c.any.ensures.ran (YieldsList-from_range 0 15 15 refl refl) (λ x b q k. search rules)
