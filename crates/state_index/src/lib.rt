@@ -105,29 +105,25 @@ pub fn all_distinct(s: &[u8], index: &mut [u32], from: usize, count: usize) -> b
 pub fn key_end(s: &[u8], section: u8, at: usize) -> usize
     ensures { result ≡ past (numbered section).key s.now at }
 {
-    if section <= Section::ENUMS || Section::EXTERNAL_INPUTS < section {
-        return text_end(s, at);
+    match section {
+        Section::CONNECTIONS => connector_key_end(s, connector_key_end(s, at)),
+        Section::BLOCKS | Section::SCHEDULE | Section::STATE_SLOTS => block_key_end(s, at),
+        Section::CONNECTORS
+        | Section::CONNECTOR_ORDER
+        | Section::DRIVER_OF
+        | Section::EXTERNAL_INPUTS => connector_key_end(s, at),
+        _ => text_end(s, at),
     }
-    if section == Section::CONNECTIONS {
-        return connector_key_end(s, connector_key_end(s, at));
-    }
-    if section == Section::BLOCKS
-        || section == Section::SCHEDULE
-        || section == Section::STATE_SLOTS
-    {
-        return block_key_end(s, at);
-    }
-    connector_key_end(s, at)
 }
 
 // The bytes that this key is ranked by.
 pub fn key_part(s: &[u8], section: u8, at: usize) -> &[u8]
     ensures { result.now ≡ key_at (numbered section) s.now at }
 {
-    if section <= Section::ENUMS || Section::BOUNDARY_OUTPUTS < section {
-        return text_part(s, at);
+    match section {
+        Section::BLOCKS..=Section::BOUNDARY_OUTPUTS => part(s, at, key_end(s, section, at)),
+        _ => text_part(s, at),
     }
-    part(s, at, key_end(s, section, at))
 }
 
 pub fn word_at(index: &[u32], i: usize) -> usize
