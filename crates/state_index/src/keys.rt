@@ -15,6 +15,7 @@ pub fn byte_at(s: &[u8], at: usize) -> u8
 }
 
 // The number of the W bytes at a position; 0 where there are fewer.
+#[tactic(auto, using(crate::proofs::Texts::number_none), unfolding(format::specs::Places::number_at))]
 fn number<const W: usize>(s: &[u8], at: usize) -> u64
     requires { (0 < W) × (W ≤ 8) }
     ensures { result ≡ number_at W s.now at }
@@ -53,6 +54,7 @@ pub fn block_key_end(s: &[u8], at: usize) -> usize
 }
 
 // Where the connector key at a position ends.
+#[tactic(auto, unfolding(format::specs::Places::past, format::specs::Keys::connector_key))]
 pub fn connector_key_end(s: &[u8], at: usize) -> usize
     ensures { result ≡ past connector_key s.now at }
 {

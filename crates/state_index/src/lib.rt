@@ -61,6 +61,7 @@ pub fn ahead(s: &[u8], at: usize, n: usize) -> usize
 }
 
 // Where the string at a position ends.
+#[tactic(auto, unfolding(format::specs::Places::past))]
 pub fn text_end(s: &[u8], at: usize) -> usize
     ensures { result ≡ past text s.now at }
 {
@@ -72,6 +73,7 @@ pub fn text_end(s: &[u8], at: usize) -> usize
 }
 
 // The text of the string at a position.
+#[tactic(auto, using(crate::proofs::Texts::text_is), unfolding(format::specs::Values::value_at))]
 pub fn text_part(s: &[u8], at: usize) -> &[u8]
     ensures { result.now ≡ text_at s.now at }
 {
@@ -156,6 +158,7 @@ impl Table {
 
     // The word of the table, whose entries stand in order, that has the key: the word `hint` is tried first, then those that the hints at the
     // end of the index name, and then all are searched.
+    #[tactic(auto, using(crate::proofs::Search::finds_key))]
     pub fn find(self, s: &[u8], index: &[u32], key: &[u8], hint: usize) -> Option<usize>
         requires to_in_bounds { self.to ≤ length index.now }
         requires ordered { Ordered (key_at_most (numbered self.section) s.now) (span index.now self.from self.to) }
