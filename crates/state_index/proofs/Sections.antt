@@ -43,10 +43,6 @@ module _ (s : List ℕ) (at : ℕ) {t first : ℕ} (et : t ≡ get_or s at 0) (e
   pub block-other : (t ≡ 0 → ⊥) → (t ≡ 1 → ⊥) → first ≡ past block_key s at
   block-other y z = done-is s first ∙ by-tag (get_or-eq_default {A = Fmt} forms done {n = t} (omega arith))
 
-pub connector-past : (s : List ℕ) (at : ℕ) {k d e : ℕ} → k ≡ past block_key s at → d ≡ min (k + 1) (length s) → e ≡ min (d + 4) (length s) → e ≡ past connector_key s at
-unfolding past connector_key
-connector-past s at i j h = h ∙ rw (j, i)
-
 -- ---- the sections by their numbers
 -- one of three or four numbers, where the others are refuted
 pub key-block : {n : ℕ} → ((n ≡ 3 → ⊥) → (n ≡ 6 → ⊥) → (n ≡ 9 → ⊥) → ⊥) → (numbered n).key ≡ block_key
