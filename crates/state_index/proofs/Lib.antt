@@ -1,5 +1,5 @@
--- Laws of the definitions: `Order` of keys, `Lists` of parts and stores, `Sorting` of the merge and of different keys, `Halves` of one level
--- of the sort, `Texts` of texts and numbers, `Slots` and `Sieve` of a sift, `Sections` of keys, `Search` of a search.
+-- Laws of the definitions: `Order` of keys, `Lists` of parts and stores, `Sorting` of what the library sorts and of different keys, `Lent` of a
+-- part that was lent, `Texts` of texts and numbers, `Slots` and `Sieve` of a sift, `Sections` of keys, `Search` of a search.
 pub mod Order
 pub mod Lists
 pub mod Sorting

@@ -68,11 +68,3 @@ then_less x y z p q = go (lex_compare x y) refl
     go Less h = lex-trans x y z h q
     go Equal h = subst (λ (w : List ℕ). lex_compare w z ≡ Less) (sym ((lex-equal-iff x y).0 h)) q
     go Greater h = apart (sym p ∙ rw (lex-turned x y, h))
-
-pub leq-trans : (x y z : List ℕ) → leq x y ≡ true → leq y z ≡ true → leq x z ≡ true
-leq-trans x y z p q = go (lex_compare z x) refl
-  where
-    go : (o : Ordering) → lex_compare z x ≡ o → leq x z ≡ true
-    go Less h = apart (sym q ∙ less-not-leq z y (less_then z x y h p))
-    go Equal h = rw h
-    go Greater h = rw h

@@ -73,14 +73,14 @@ module _ (e : Section) (s index : List ℕ) (from to : ℕ) (key : List ℕ) whe
   between-all = record { least = omega arith; most = omega arith; below = λ j h i. absurd (omega arith); above = λ j h i. absurd (omega arith) }
 
   -- a word whose entry has the key, by whatever way it was come by
-  pub finds-key : {w : ℕ} → (from ≤ w) × (w < to) × (of w ≡ key) → Finds e s index from to key (Some w)
-  finds-key {w} h = record {
+  pub finds_key : {w : ℕ} → (from ≤ w) × (w < to) × (of w ≡ key) → Finds e s index from to key (Some w)
+  finds_key {w} h = record {
     at = λ v i. let j : w ≡ v = cc in rw (← j) h;
     nothing = λ i. cc;
   }
 
   pub finds-at : {w : ℕ} → from ≤ w → w < to → lex_compare key (of w) ≡ Equal → Finds e s index from to key (Some w)
-  finds-at {w} h k q = finds-key (h, k, sym ((lex-equal-iff key (of w)).0 q))
+  finds-at {w} h k q = finds_key (h, k, sym ((lex-equal-iff key (of w)).0 q))
 
   pub finds-nothing : {low high : ℕ} → Between low high → high ≤ low → Finds e s index from to key None
   finds-nothing {low} {high} b h = record {

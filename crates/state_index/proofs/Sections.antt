@@ -1,8 +1,8 @@
 -- The keys of the sections, and where they end.
 use Prim.Native.Nat.{ℕ, zero, suc, ◌+◌, ◌-◌, ◌≤◌, ◌<◌, min}
 use native.Mathlib.Omega.{arith}
+use native.Mathlib.Decide.{dec_lt, ℕ_discrete}
 use mathlib.Core.Path.{◌≡◌, refl, ap, ◌∙◌}
-use mathlib.Core.Logic.{◌⊎◌, inl, inr}
 use mathlib.Core.List.{List, [], ◌∷◌}
 use lib.ListN.{length, get_or, drop, get_or-eq_default}
 use lib.Seq.{get_or-drop}
@@ -43,51 +43,46 @@ module _ (s : List ℕ) (at : ℕ) {t first : ℕ} (et : t ≡ get_or s at 0) (e
   pub block-other : (t ≡ 0 → ⊥) → (t ≡ 1 → ⊥) → first ≡ past block_key s at
   block-other y z = done-is s first ∙ by-tag (get_or-eq_default {A = Fmt} forms done {n = t} (omega arith))
 
-pub connector-past : (s : List ℕ) (at : ℕ) {k d e : ℕ} → k ≡ past block_key s at → d ≡ min (k + 1) (length s) → e ≡ min (d + 4) (length s) → e ≡ past connector_key s at
-unfolding past connector_key
-connector-past s at i j h = h ∙ rw (j, i)
-
 -- ---- the sections by their numbers
+-- one of three or four numbers, where the others are refuted
+pub key-block : {n : ℕ} → ((n ≡ 3 → ⊥) → (n ≡ 6 → ⊥) → (n ≡ 9 → ⊥) → ⊥) → (numbered n).key ≡ block_key
+unfolding numbered
+key-block {n} h = go (ℕ_discrete n 3) (ℕ_discrete n 6) (ℕ_discrete n 9)
+  where
+    go : Dec (n ≡ 3) → Dec (n ≡ 6) → Dec (n ≡ 9) → (numbered n).key ≡ block_key
+    go (yes e) b c = rw e
+    go (no a) (yes e) c = rw e
+    go (no a) (no b) (yes e) = rw e
+    go (no a) (no b) (no c) = absurd (h a b c)
+
+pub key-connector : {n : ℕ} → ((n ≡ 4 → ⊥) → (n ≡ 7 → ⊥) → (n ≡ 8 → ⊥) → (n ≡ 10 → ⊥) → ⊥) → (numbered n).key ≡ connector_key
+unfolding numbered
+key-connector {n} h = go (ℕ_discrete n 4) (ℕ_discrete n 7) (ℕ_discrete n 8) (ℕ_discrete n 10)
+  where
+    go : Dec (n ≡ 4) → Dec (n ≡ 7) → Dec (n ≡ 8) → Dec (n ≡ 10) → (numbered n).key ≡ connector_key
+    go (yes e) b c d = rw e
+    go (no a) (yes e) c d = rw e
+    go (no a) (no b) (yes e) d = rw e
+    go (no a) (no b) (no c) (yes e) = rw e
+    go (no a) (no b) (no c) (no d) = absurd (h a b c d)
+
+pub key-pair : {n : ℕ} → n ≡ 5 → (numbered n).key ≡ connector_key then connector_key
+unfolding numbered
+key-pair e = rw e
+
 -- with a text as key
 high : (m : ℕ) → (get_or (drop 9 lists) m input_definitions).key ≡ text
 high zero = refl
 high (suc zero) = refl
 high (suc (suc m)) = refl
 
-pub key-low : {n : ℕ} → n ≤ 2 → (numbered n).key ≡ text
+pub key-text : {n : ℕ} → (2 < n → n ≤ 10 → ⊥) → (numbered n).key ≡ text
 unfolding numbered
-key-low {n} h = let e : n - 2 ≡ 0 = omega arith in rw e
-
-pub key-high : {n : ℕ} → 10 < n → (numbered n).key ≡ text
-unfolding numbered
-key-high {n} h = let e : n - 2 ≡ 9 + (n - 11) = omega arith in rw (e, ← get_or-drop 9 lists (n - 11) input_definitions) (high (n - 11))
-
-pub key-block : {n : ℕ} → (n ≡ 3) ⊎ (n ≡ 6) ⊎ (n ≡ 9) → (numbered n).key ≡ block_key
-unfolding numbered
-key-block (inl e) = rw e
-key-block (inr (inl e)) = rw e
-key-block (inr (inr e)) = rw e
-
-pub key-pair : {n : ℕ} → n ≡ 5 → (numbered n).key ≡ connector_key then connector_key
-unfolding numbered
-key-pair e = rw e
-
-from-three : (m : ℕ) → m ≤ 7 → (m ≡ 0 → ⊥) → (m ≡ 2 → ⊥) → (m ≡ 3 → ⊥) → (m ≡ 6 → ⊥) → (get_or lists (suc m) input_definitions).key ≡ connector_key
-from-three zero h a b c d = absurd (a refl)
-from-three (suc zero) h a b c d = refl
-from-three (suc (suc zero)) h a b c d = absurd (b refl)
-from-three (suc (suc (suc zero))) h a b c d = absurd (c refl)
-from-three (suc (suc (suc (suc zero)))) h a b c d = refl
-from-three (suc (suc (suc (suc (suc zero))))) h a b c d = refl
-from-three (suc (suc (suc (suc (suc (suc zero)))))) h a b c d = absurd (d refl)
-from-three (suc (suc (suc (suc (suc (suc (suc zero))))))) h a b c d = refl
-from-three (suc (suc (suc (suc (suc (suc (suc (suc m)))))))) h a b c d = absurd (omega arith)
-
-pub key-connector : {n : ℕ} → 2 < n → n ≤ 10 → (n ≡ 3 → ⊥) → (n ≡ 5 → ⊥) → (n ≡ 6 → ⊥) → (n ≡ 9 → ⊥) → (numbered n).key ≡ connector_key
-unfolding numbered
-key-connector {n} l h a b c d =
-    let e : n - 2 ≡ suc (n - 3) = omega arith in
-    rw e (from-three (n - 3) (omega arith) (λ q. a (omega arith)) (λ q. b (omega arith)) (λ q. c (omega arith)) (λ q. d (omega arith)))
+key-text {n} h = go (dec_lt 2 n)
+  where
+    go : Dec (2 < n) → (numbered n).key ≡ text
+    go (yes l) = let e : n - 2 ≡ 9 + (n - 11) = omega (arith, h l) in rw (e, ← get_or-drop 9 lists (n - 11) input_definitions) (high (n - 11))
+    go (no m) = let e : n - 2 ≡ 0 = omega arith in rw e
 
 -- where a key ends
 module _ (n : ℕ) (s : List ℕ) (at : ℕ) where
@@ -115,13 +110,13 @@ in-full (suc (suc (suc (suc (suc (suc (suc (suc zero)))))))) h = refl
 in-full (suc (suc (suc (suc (suc (suc (suc (suc (suc m))))))))) h = absurd (omega arith)
 
 module _ (n : ℕ) (s : List ℕ) (at : ℕ) where
-  pub enum-key : n ≤ 2 → text_at s at ≡ key_at (numbered n) s at
+  pub text-key : (2 < n → n ≤ 11 → ⊥) → text_at s at ≡ key_at (numbered n) s at
   unfolding numbered key_at value_at
-  enum-key h = let e : n - 2 ≡ 0 = omega arith in rw e
-
-  pub input-key : 11 < n → text_at s at ≡ key_at (numbered n) s at
-  unfolding numbered key_at value_at
-  input-key h = let e : n - 2 ≡ 10 + (n - 12) = omega arith in rw (e, ← get_or-drop 10 lists (n - 12) input_definitions, last (n - 12))
+  text-key h = go (dec_lt 2 n)
+    where
+      go : Dec (2 < n) → text_at s at ≡ key_at (numbered n) s at
+      go (yes l) = let e : n - 2 ≡ 10 + (n - 12) = omega (arith, h l) in rw (e, ← get_or-drop 10 lists (n - 12) input_definitions, last (n - 12))
+      go (no m) = let e : n - 2 ≡ 0 = omega arith in rw e
 
   pub full-key : 2 < n → n ≤ 11 → {e : ℕ} → e ≡ past (numbered n).key s at → span s at e ≡ key_at (numbered n) s at
   unfolding numbered key_at

@@ -3,7 +3,7 @@
 use mathlib.Core.Path.{◌≡◌, refl, sym, ap, ◌∙◌}
 use mathlib.Core.List.Permᴰ
 use mathlib.Core.List.{List, [], ◌∷◌, ◌++◌, map, append-nil}
-use mathlib.Core.Bool.{Bool, true, false, not, ◌&&◌, ◌||◌}
+use mathlib.Core.Bool.{Bool, true, false, not, ◌&&◌, ◌||◌, and-true, and-false, and_comm}
 use Prim.Native.Nat.{ℕ, suc, ◌+◌, ◌-◌, ◌≤◌, ◌<◌}
 use native.Mathlib.Numerals.{add-one}
 use native.Mathlib.Omega.{arith}
@@ -20,43 +20,20 @@ use Rattle.std.proofs.Common.{rules}
 use Rattle.state_index.proofs.Lists.{slice-past, slice-set-after, slice-set-before}
 use Rattle.state_index.proofs.Sorting.{perm-map, different-perm}
 
-and-true : (b : Bool) → b ≡ (b && true)
-and-true true = refl
-and-true false = refl
-
-and-false : (b : Bool) → (b && false) ≡ false
-and-false true = refl
-and-false false = refl
-
 not-or : (a b : Bool) → (not a && not b) ≡ not (a || b)
-not-or true b = refl
-not-or false b = refl
+not-or a b = grind arith
 
-both : (h s m i : Bool) → ((not h && not s) && (m && not i)) ≡ ((not h && m) && not (s || i))
-both true s m i = refl
-both false true true i = refl
-both false true false i = refl
-both false false m i = refl
+both : (a b c d : Bool) → ((not a && not b) && (c && not d)) ≡ ((not a && c) && not (b || d))
+both a b c d = grind arith
 
-and_comm : (a b : Bool) → (a && b) ≡ (b && a)
-and_comm true b = and-true b
-and_comm false b = sym (and-false b)
-
-turn : (i d m : Bool) → ((not i && d) && m) ≡ (d && (m && not i))
-turn true true true = refl
-turn true true false = refl
-turn true false m = refl
-turn false true m = and-true m
-turn false false m = refl
+turn : (a b c : Bool) → ((not a && b) && c) ≡ (b && (c && not a))
+turn a b c = grind arith
 
 taken-and : (a b : Bool) → (a && b) ≡ true → (a ≡ true) × (b ≡ true)
-taken-and true true e = (refl, refl)
-taken-and true false e = apart (sym e)
-taken-and false b e = apart (sym e)
+taken-and a b e = grind arith
 
 not-false : (b : Bool) → not b ≡ true → b ≡ false
-not-false true e = apart (sym e)
-not-false false e = refl
+not-false b e = grind arith
 
 module _ (key : ℕ → List ℕ) (slot : ℕ → ℕ) (first : ℕ) where
   -- what stands in the slot of q has its text
@@ -138,7 +115,7 @@ module _ (key : ℕ → List ℕ) (slot : ℕ → ℕ) (first : ℕ) where
               rw (e, here, was, others first q (λ d. away (d ∙ e)))
           go false h =
               let n : slot q ≡ slot x → ⊥ = eqb-false (slot q) (slot x) h in
-              rw (there (slot q) n, others x q (λ d. n (sym d))) (and-true (not (hit t q)))
+              rw (there (slot q) n, others x q (λ d. n (sym d))) (sym (and-true (not (hit t q))))
 
       misses-placed : (l : List ℕ) → misses u l ≡ (misses t l && not (is_in (key x) (map key l)))
       unfolding is_in
@@ -240,4 +217,4 @@ module _ {key : ℕ → List ℕ} {slot : ℕ → ℕ} {first n : ℕ} {o w : Li
   held-end hk hi =
       held.same
       ∙ rw (slice-past i n w hi, append-nil (take k w), misses-settled key slot first (table key slot first n w) (take k w) held.settled, lt-ltb k n hk)
-      (sym (and-true (all_different (map key (take k w)))))
+      (and-true (all_different (map key (take k w))))

@@ -60,6 +60,7 @@ pub fn ahead(s: &[u8], at: usize, n: usize) -> usize
 }
 
 // Where the string at a position ends.
+#[tactic(auto, unfolding(format::specs::Places::past))]
 pub fn text_end(s: &[u8], at: usize) -> usize
     ensures { result ≡ past text s.now at }
 {
@@ -71,6 +72,7 @@ pub fn text_end(s: &[u8], at: usize) -> usize
 }
 
 // The text of the string at a position.
+#[tactic(auto, using(crate::proofs::Texts::text_is), unfolding(format::specs::Values::value_at))]
 pub fn text_part(s: &[u8], at: usize) -> &[u8]
     ensures { result.now ≡ text_at s.now at }
 {
@@ -104,29 +106,25 @@ pub fn all_distinct(s: &[u8], index: &mut [u32], from: usize, count: usize) -> b
 pub fn key_end(s: &[u8], section: u8, at: usize) -> usize
     ensures { result ≡ past (numbered section).key s.now at }
 {
-    if section <= Section::ENUMS || Section::EXTERNAL_INPUTS < section {
-        return text_end(s, at);
+    match section {
+        Section::CONNECTIONS => connector_key_end(s, connector_key_end(s, at)),
+        Section::BLOCKS | Section::SCHEDULE | Section::STATE_SLOTS => block_key_end(s, at),
+        Section::CONNECTORS
+        | Section::CONNECTOR_ORDER
+        | Section::DRIVER_OF
+        | Section::EXTERNAL_INPUTS => connector_key_end(s, at),
+        _ => text_end(s, at),
     }
-    if section == Section::CONNECTIONS {
-        return connector_key_end(s, connector_key_end(s, at));
-    }
-    if section == Section::BLOCKS
-        || section == Section::SCHEDULE
-        || section == Section::STATE_SLOTS
-    {
-        return block_key_end(s, at);
-    }
-    connector_key_end(s, at)
 }
 
 // The bytes that this key is ranked by.
 pub fn key_part(s: &[u8], section: u8, at: usize) -> &[u8]
     ensures { result.now ≡ key_at (numbered section) s.now at }
 {
-    if section <= Section::ENUMS || Section::BOUNDARY_OUTPUTS < section {
-        return text_part(s, at);
+    match section {
+        Section::BLOCKS..=Section::BOUNDARY_OUTPUTS => part(s, at, key_end(s, section, at)),
+        _ => text_part(s, at),
     }
-    part(s, at, key_end(s, section, at))
 }
 
 pub fn word_at(index: &[u32], i: usize) -> usize
@@ -137,7 +135,8 @@ pub fn word_at(index: &[u32], i: usize) -> usize
 }
 
 impl Table {
-    // Halves the table, whose entries stand in order, until it has the key's word or none is left.
+    // Halves the table, whose entries stand in order, until it has the key's word or none is left. By the library's `binary_search_by`, which
+    // goes on where it has met the key, a look-up was a tenth to a quarter slower.
     fn binary_search(self, s: &[u8], section: u8, index: &[u32], key: &[u8]) -> Option<usize>
         requires to_in_bounds { self.to ≤ length index.now }
         requires ordered { Ordered (key_at_most (numbered section) s.now) (span index.now self.from self.to) }
@@ -159,6 +158,7 @@ impl Table {
 
     // The word of the table, whose entries stand in order, that has the key: the word `hint` is tried first, then those that the hints at the
     // end of the index name, and then all are searched.
+    #[tactic(auto, using(crate::proofs::Search::finds_key))]
     pub fn find(
         self,
         s: &[u8],

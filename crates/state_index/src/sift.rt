@@ -4,32 +4,31 @@ ghost use Rattle.format.specs.Lists.{same, all_different};
 ghost use Rattle.state_index.specs.Keys.{text_at};
 ghost use Rattle.state_index.specs.Sift.{rolled, spread, mark, slot_at};
 
-use super::keys::{byte_at, number_at};
+use super::keys::number_at;
 use super::positions::rising;
 use super::{SortKey, sort, text_part};
 use state_key_order::same_bytes;
 
 // A number of few bytes.
+#[tactic(auto, unfolding(crate::specs::Sift::rolled))]
 fn roll(t: &[u8]) -> u64
     ensures { result ≡ rolled t.now }
 {
-    let mut i = t.len();
-    let mut n = 0u64;
-    while 0 < i {
-        i -= 1;
-        n = byte_at(t, i) as u64 + 256 * (n % 72057594037927936);
-    }
-    n
+    t.iter()
+        .fold(0, |n, b| n % 72057594037927936 * 256 + u64::from(*b))
 }
 
 // The two halves of a number, multiplied so that the upper bits depend on every bit.
+#[tactic(auto, unfolding(crate::specs::Sift::spread))]
 pub(crate) fn mix(n: u64) -> u64
-    ensures { result ≡ spread n }
+    ensures value { result ≡ spread n }
+    ensures bound { result < 10525372030054629376 }
 {
     n % 4294967296 * 1327217885 + n / 4294967296 * 1123411259
 }
 
 // A number of a text, mostly another for another text.
+#[tactic(auto, unfolding(crate::specs::Sift::mark))]
 fn mark_of(t: &[u8]) -> u64
     ensures { result ≡ mark t.now }
 {
@@ -40,6 +39,7 @@ fn mark_of(t: &[u8]) -> u64
 }
 
 // The slot, of m, of the text at a position.
+#[tactic(auto, unfolding(crate::specs::Sift::slot_at))]
 fn slot_at(s: &[u8], m: usize, p: u32) -> usize
     requires { 0 < m }
     ensures value { result ≡ slot_at s.now m p }

@@ -5,23 +5,11 @@ use Rattle.state_index.proofs.Table.binary_search.Goals as goal
 pub loop-low-init : goal.loop-low-init
 loop-low-init c = between-all _ _ _ _ _ _
 
-pub word_at-requires : goal.word_at-requires
-word_at-requires c = omega (arith, c.loop-low.invariant.most, c.requires.to_in_bounds)
-
-pub loop-low-smaller-in-Less : goal.loop-low-smaller-in-Less
-loop-low-smaller-in-Less c = omega arith
-
 pub loop-low-preserved-in-Less : goal.loop-low-preserved-in-Less
 loop-low-preserved-in-Less c = between-high _ _ _ _ _ _ c.requires.to_in_bounds c.requires.ordered c.loop-low.invariant (omega arith) (omega arith) (compared-with _ _ c.args.index.now _ _ c.word_at.ensures c.key_part.ensures c.compare-c.ensures c.in-Less.is)
 
 pub returns-in-Equal : goal.returns-in-Equal
-returns-in-Equal c = finds-at _ _ _ _ _ _ (omega (arith, c.loop-low.invariant.least)) (omega (arith, c.loop-low.invariant.most)) (compared-with _ _ c.args.index.now _ _ c.word_at.ensures c.key_part.ensures c.compare-c.ensures c.in-Equal.is)
-
-pub overflow_add-low : goal.overflow_add-low
-overflow_add-low c = omega arith
-
-pub loop-low-smaller : goal.loop-low-smaller
-loop-low-smaller c = omega arith
+returns-in-Equal c = finds-at _ _ _ _ _ _ (omega arith) (omega arith) (compared-with _ _ c.args.index.now _ _ c.word_at.ensures c.key_part.ensures c.compare-c.ensures c.in-Equal.is)
 
 pub loop-low-preserved : goal.loop-low-preserved
 loop-low-preserved c = between-low _ _ _ _ _ _ c.requires.to_in_bounds c.requires.ordered c.loop-low.invariant (omega arith) (omega arith) (compared-with _ _ c.args.index.now _ _ c.word_at.ensures c.key_part.ensures c.compare-c.ensures c.in-Greater.is)
