@@ -1,10 +1,9 @@
 -- What the loop over entries that ascend answers.
 use Prim.Native.Nat.{ℕ, ◌+◌, ◌-◌, ◌≤◌, ◌<◌}
-use native.Mathlib.Omega.{arith}
 use mathlib.Core.Path.{◌≡◌, refl, sym, ap, ◌∙◌}
 use mathlib.Core.Bool.{Bool, true, false}
 use mathlib.Core.List.{List, []}
-use Rattle.std.specs.Prelude.{Ok, Err, Option, Some, None}
+use Rattle.std.specs.Prelude.{Ok, Err, Option, Some}
 use Rattle.state.specs.Bytes.{span}
 use Rattle.state.specs.Outcome.{Stepped, NumberRead, field_of, step_of_field, refuses}
 use Rattle.state.specs.declared.Refusal.{Refusal}
@@ -12,7 +11,7 @@ use Rattle.state_wire.specs.Fields.{read_count}
 use Rattle.format.specs.Format.{Rule, free, distinct, early, late, from, above, after_key, after_entry, scan}
 use Rattle.format.specs.Manifest.{Section, counted}
 use Rattle.format.proofs.Entries.{Going, list-stop, going_start, going_end, going-rest-stop, going-low, going_on}
-use Rattle.state_manifest_codec.specs.declared.layouts.Asked.TheVariants.{AfterKey, AfterEntry}
+use Rattle.state_manifest_codec.specs.declared.layouts.Asked.TheVariants.{AfterEntry}
 use Rattle.state_manifest_codec.specs.declared.layouts.Layout.{Layout}
 use Rattle.state_manifest_codec.specs.Layouts.{asked_by, layout_of}
 use Rattle.state_manifest_codec.specs.Tables.{prior}

@@ -1,5 +1,4 @@
 -- What of a section's format its loop needs to know: `Layout`.
-use Rattle.std.specs.Prelude.{ℕ}
 use Rattle.format.specs.Format.{Rule, free, distinct, early, late, from}
 use Rattle.format.specs.Manifest.{Section}
 use Rattle.state_manifest_codec.specs.declared.layouts.Asked.{Asked}

@@ -2,13 +2,13 @@
 ghost use Rattle.std.specs.Prelude.{◌≡◌, true, option_map};
 ghost use Rattle.state.specs.Outcome.{field_of};
 ghost use Rattle.state_wire.specs.Fields.{read_count, max_snapshot_bytes};
-ghost use Rattle.format.specs.Format.{Rank, late, ranked, above, scan};
+ghost use Rattle.format.specs.Format.{above, scan};
 ghost use Rattle.format.specs.Manifest.{Section, counted, params, connector_keys};
 ghost use Rattle.state_manifest_codec.specs.Tables.{prior};
 ghost use Rattle.state_manifest_codec.specs.Layouts.{layout_of};
 ghost use Rattle.state_manifest_codec.specs.Readers.{ReadsAs};
 
-use crate::layouts::{Asked, Layout};
+use crate::layouts::Asked;
 use crate::values::read_value;
 use state::{Field, Question, Refusal, Step};
 use state_key_order::{precedes, read_connector_key};
@@ -93,7 +93,7 @@ pub fn read_parameters(s: &[u8], at: usize) -> Step
     read_ascending(s, at, 6, 4, string, read_value)
 }
 
-// A block's inputs or outputs.
+// A block's inputs or outputs. Their order is free and nothing follows a key, so they are not read by `read_ascending`.
 pub fn read_connector_keys(s: &[u8], at: usize) -> Step
     ensures { result ≡ scan max_snapshot_bytes connector_keys s.now at }
 {

@@ -15,10 +15,11 @@ pub fn read_value_type(s: &[u8], at: usize) -> Step
     let Ok((t, next)) = tag else {
         return step_of(tag);
     };
-    match t {
-        WireValueType::ENUM => string(s, next),
-        _ => Ok(next),
+    let of_class = t == WireValueType::ENUM;
+    if of_class {
+        return string(s, next);
     }
+    Ok(next)
 }
 
 // An enum's class path and ordinal.
@@ -79,7 +80,7 @@ pub fn read_bound(s: &[u8], at: usize) -> Step
     read_optional(s, at, read_value)
 }
 
-// Section 1: portable, or the names of an architecture and a system.
+// Section 1: portable, or the names of an architecture and a system. Its tags have names, so it is no `read_optional`.
 pub fn read_portability(s: &[u8], at: usize) -> Step
     ensures { result ≡ scan max_snapshot_bytes portability s.now at }
 {

@@ -1,5 +1,5 @@
 use native.Mathlib.Omega.{arith}
-use mathlib.Core.Path.{refl, sym, ap, ◌∙◌}
+use mathlib.Core.Path.{refl, sym, ◌∙◌}
 use Rattle.format.proofs.Entries.{going-key-stop}
 use Rattle.state_manifest_codec.proofs.Laid.{skip-small}
 use Rattle.state_manifest_codec.proofs.Ascending.{ascending-stop, ascending-start, ascending-end, ascending-rest-stop, ascending-low, ascending-on}

@@ -3,7 +3,7 @@ use mathlib.Core.Path.{refl, ◌∙◌}
 use Rattle.state_wire.specs.Fields.{max_snapshot_bytes}
 use Rattle.format.specs.Manifest.{numbered}
 use Rattle.state_manifest_codec.proofs.Laid.{skip-small}
-use Rattle.state_manifest_codec.proofs.Walking.{walk-stop, walk_start, walk_end, walk-key-stop, walk-key, walk-room, walk-key-low, walk-rest-stop, walk-low, walk-word, walk-on}
+use Rattle.state_manifest_codec.proofs.Walking.{walk-stop, walk_start, walk_end, walk-key-stop, walk-room, walk-key-low, walk-rest-stop, walk-low, walk-word, walk-on}
 use Rattle.state_manifest_codec.proofs.tables.read_list.Goals as goal
 
 pub returns-in_default : goal.returns-in_default

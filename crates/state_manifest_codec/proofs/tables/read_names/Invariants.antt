@@ -9,5 +9,5 @@ use Rattle.state_manifest_codec.proofs.tables.read_names.Given as goal
 abbrev pub invariant-loop : goal.invariant-loop
 invariant-loop l = record {
   going : Going (scan_entries max_snapshot_bytes free text done l.s l.count l.at []) max_snapshot_bytes free text done l.s (l.count - l.counter) l.p [];
-  filling : Filling max_snapshot_bytes (text then done) l.s l.count l.at l.word l.initial.index (l.count - l.counter) l.p l.w l.index
+  filling : Filling max_snapshot_bytes (text then done) l.s l.count l.at l.word l.initial.index (l.count - l.counter) l.p l.w l.index;
 }
