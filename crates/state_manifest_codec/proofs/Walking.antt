@@ -1,7 +1,7 @@
 -- What the loop over a section's entries keeps, and what it answers.
 use Prim.Native.Nat.{ℕ, ◌+◌, ◌-◌, ◌≤◌, ◌<◌}
 use native.Mathlib.Omega.{arith}
-use mathlib.Core.Path.{◌≡◌, refl, ap, ◌∙◌}
+use mathlib.Core.Path.{◌≡◌, refl, sym, ap, ◌∙◌}
 use mathlib.Core.Bool.{Bool, true, false}
 use mathlib.Core.List.{List, [], ◌++◌}
 use lib.ListN.{length, take, set}
@@ -92,9 +92,9 @@ module _ {limit n : ℕ} {layout : Layout} {s : List ℕ} {at word : ℕ} {old :
             pub walk-word : Room s old at word → w < length next
             walk-word r = omega (arith, filling-room g.filling r g.going.here, er.long)
 
-            pub walk-on : Room s old at word → d ≡ true → {v left' : ℕ} → v ≡ p → left - 1 ≡ left' → Walking limit n layout s at word old left' e (Some (span s (p + layout.skip) k)) (w + 1) (set next w v)
-            walk-on r t q z = record {
+            pub walk-on : Room s old at word → d ≡ true → {ranked : List ℕ} → ranked ≡ span s (p + layout.skip) k → {v left' : ℕ} → v ≡ p → left - 1 ≡ left' → Walking limit n layout s at word old left' e (Some ranked) (w + 1) (set next w v)
+            walk-on r t j q z = record {
               laid = g.laid;
-              going = going-left (going_on g.going h ek ik (key-told (numbered n) g.laid s p k _ ea en tb) er.is ir (entry-told (numbered n) g.laid s p k _ da dn t) (key-kept (numbered n) g.laid s p k _ (last-only n))) z;
+              going = going-left (going_on g.going h ek ik (key-told (numbered n) g.laid s p k _ ea en tb) er.is ir (entry-told (numbered n) g.laid s p k _ da dn t) (key-kept (numbered n) g.laid s p k _ (last-only n) ∙ ap (λ (x : List ℕ). prior (Some x)) (sym j))) z;
               filling = filling-left (filling-on g.filling h next er.long (fills-keeps er ir) (walk-word r) (entry-end limit (numbered n).key (numbered n).rest s p ek ik er.is ir) (omega (arith, walk-key.0, (next-within limit s (numbered n).rest k walk-key.1 er.is ir).0)) q) z;
             }

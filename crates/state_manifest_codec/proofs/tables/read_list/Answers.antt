@@ -55,7 +55,7 @@ pub overflow_add-w : goal.overflow_add-w
 overflow_add-w c = omega (arith, c.loop.invariant.filling.used, c.loop.invariant.going.here, c.requires.short)
 
 pub loop-preserved : goal.loop-preserved
-loop-preserved c = rw c.part-ranked.ensures (walk-on c.loop.invariant (omega arith) c.read_key-key.ensures c.in-Ok-key.is (λ q. c.in_order.ensures.asked q ∙ rw c.part-ranked.ensures) c.in_order.ensures.unasked c.if-not-in_order.false c.read_rest-rest.ensures c.in-Ok-rest.is (λ q. c.in_order-in-loop.ensures.asked q ∙ rw c.part-ranked.ensures) c.in_order-in-loop.ensures.unasked c.requires c.if-not-in_order-2.false refl (omega arith))
+loop-preserved c = walk-on c.loop.invariant (omega arith) c.read_key-key.ensures c.in-Ok-key.is (λ q. c.in_order.ensures.asked q ∙ rw c.part-ranked.ensures) c.in_order.ensures.unasked c.if-not-in_order.false c.read_rest-rest.ensures c.in-Ok-rest.is (λ q. c.in_order-in-loop.ensures.asked q ∙ rw c.part-ranked.ensures) c.in_order-in-loop.ensures.unasked c.requires c.if-not-in_order-2.false c.part-ranked.ensures refl (omega arith)
 
 pub shape_of-index : goal.shape_of-index
 shape_of-index c = c.loop.invariant.filling.long
