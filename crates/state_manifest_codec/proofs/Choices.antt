@@ -2,9 +2,9 @@
 use Prim.Native.Nat.{ℕ, zero, suc, ◌<◌}
 use native.Mathlib.Omega.{arith}
 use mathlib.Core.Path.{◌≡◌, refl}
-use mathlib.Core.List.{[], ◌∷◌}
+use mathlib.Core.List.{List, [], ◌∷◌}
 use lib.ListN.{get_or}
-use Rattle.format.specs.Format.{done, text}
+use Rattle.format.specs.Format.{Fmt, done, text}
 
 -- a value type other than an enum has nothing more
 pub bare-type : (t : ℕ) → t < 5 → (t ≡ 4 → ⊥) → get_or (done ∷ done ∷ done ∷ done ∷ text ∷ []) t done ≡ done
@@ -15,9 +15,8 @@ bare-type (suc (suc (suc zero))) h n = refl
 bare-type (suc (suc (suc (suc zero)))) h n = absurd (n refl)
 bare-type (suc (suc (suc (suc (suc t))))) h n = refl
 
-pub fifth : (t : ℕ) → t < 5 → (t ≡ 0 → ⊥) → (t ≡ 1 → ⊥) → (t ≡ 2 → ⊥) → (t ≡ 3 → ⊥) → t ≡ 4
-fifth zero h a b c d = absurd (a refl)
-fifth (suc zero) h a b c d = absurd (b refl)
-fifth (suc (suc zero)) h a b c d = absurd (c refl)
-fifth (suc (suc (suc zero))) h a b c d = absurd (d refl)
-fifth (suc (suc (suc (suc t)))) h a b c d = omega arith
+-- reals and integers are stored alike
+pub either-number : (f : Fmt) (fs : List Fmt) (t : ℕ) → t < 2 → get_or (f ∷ f ∷ fs) t done ≡ f
+either-number f fs zero h = refl
+either-number f fs (suc zero) h = refl
+either-number f fs (suc (suc t)) h = absurd (omega arith)

@@ -3,7 +3,7 @@ use Prim.Native.Nat.{ℕ, suc, ◌+◌, ◌*◌, ◌-◌, ◌≤◌, ◌<◌}
 use native.Mathlib.Omega.{arith}
 use native.Mathlib.Nat.{add-zero}
 use native.Mathlib.Numerals.{add-one}
-use mathlib.Core.Path.{◌≡◌, refl, sym, ap, ◌∙◌}
+use mathlib.Core.Path.{◌≡◌, refl, sym, ap, subst, ◌∙◌}
 use mathlib.Core.List.{List, [], ◌∷◌, ◌++◌, append-nil}
 use lib.ListN.{length, take, drop, set, length-set}
 use lib.Seq.{take-suc-set, append_snoc, take-take, take_at, drop_at, length-take-le}
@@ -12,8 +12,10 @@ use Rattle.state_index.proofs.Lists.{slice-run}
 use Rattle.std.specs.Prelude.{Ok, Err}
 use Rattle.state.specs.declared.Refusal.{Refusal}
 use Rattle.state.specs.Outcome.{Stepped}
-use Rattle.format.specs.Format.{Fmt, ◌then◌, scan}
+use Rattle.format.specs.Format.{Rule, Fmt, ◌then◌, scan}
+use Rattle.format.proofs.Entries.{Going}
 use Rattle.format.proofs.Steps.{then-on}
+use Rattle.state_manifest_codec.proofs.Numbers.{numbered_low, numbered_high}
 use Rattle.format.proofs.Places.{starts-length}
 use Rattle.format.specs.Places.{end_of, end_at, starts}
 use Rattle.state_manifest_codec.specs.Tables.{Room, Fills}
@@ -64,6 +66,13 @@ module _ {limit : ℕ} {f : Fmt} {s : List ℕ} {n m word : ℕ} {old : List ℕ
   pub filling-room : {at : ℕ} → Room s old at word → p ≤ length s → w < length new
   filling-room r h = omega (arith, g.used, g.long, r.there)
 
+-- how many entries are left, in other words
+pub going-left : {whole : Stepped} {limit : ℕ} {u : Rule} {k r : Fmt} {s : List ℕ} {a b p : ℕ} {ks : List (List ℕ)} → Going whole limit u k r s a p ks → a ≡ b → Going whole limit u k r s b p ks
+going-left {whole} {limit} {u} {k} {r} {s} {p = p} {ks = ks} g e = subst (λ (x : ℕ). Going whole limit u k r s x p ks) e g
+
+pub filling-left : {limit : ℕ} {f : Fmt} {s : List ℕ} {n m word : ℕ} {old : List ℕ} {a b p w : ℕ} {new : List ℕ} → Filling limit f s n m word old a p w new → a ≡ b → Filling limit f s n m word old b p w new
+filling-left {limit} {f} {s} {n} {m} {word} {old} {p = p} {w = w} {new = new} g e = subst (λ (x : ℕ). Filling limit f s n m word old x p w new) e g
+
 -- a refusal leaves the words open
 pub fills-stop : {r answer : Stepped} {ps : List ℕ} {w : ℕ} {d : Refusal ℕ} {old new : List ℕ} → r ≡ answer → r ≡ Err d → length new ≡ length old → Fills r answer ps w old new
 fills-stop i h l = record { is = i; long = l; front = λ n e. let z : ◌≡◌ {A = ℕ} 0 1 = cc in absurd (omega arith) }
@@ -96,3 +105,5 @@ fills-as f e = record { is = e; long = f.long; front = f.front }
 -- where an entry ends that was read in two parts
 pub entry-end : (limit : ℕ) (k r : Fmt) (s : List ℕ) (p : ℕ) {x y : Stepped} {m e : ℕ} → x ≡ scan limit k s p → x ≡ Ok m → y ≡ scan limit r s m → y ≡ Ok e → e ≡ end_at limit (k then r) s p
 entry-end limit k r s p a b c d = ap end_of (sym d ∙ then-on limit s p k r a b c)
+
+pub ruleset rest_found = (numbered_low, numbered_high, fills-none, fills-as)

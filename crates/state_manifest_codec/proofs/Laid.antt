@@ -4,7 +4,7 @@ use native.Mathlib.Omega.{arith}
 use native.Mathlib.Nat.{add-zero}
 use native.Mathlib.Decide.{dec_lt}
 use mathlib.Core.Path.{◌≡◌, refl, sym, ap, ◌∙◌}
-use mathlib.Core.Bool.{Bool, true, false, cond, ◌&&◌}
+use mathlib.Core.Bool.{Bool, true, false, ◌&&◌}
 use mathlib.Core.List.{List, [], ◌∷◌}
 use lib.Dec.{leb}
 use borrow.Author.Tests.{leb-true}
@@ -16,12 +16,14 @@ use Rattle.format.specs.Manifest.{Section, numbered}
 use Rattle.format.specs.Least.{least, all_below}
 use Rattle.format.proofs.Complete.{all-below}
 use Rattle.state_manifest_codec.specs.declared.layouts.Layout.{Layout}
-use Rattle.state_manifest_codec.specs.Layouts.{is_early, is_late, layout_of}
+use Rattle.std.specs.Prelude.{Some}
+use Rattle.state_manifest_codec.specs.declared.layouts.Asked.TheVariants.{AfterKey, AfterEntry}
+use Rattle.state_manifest_codec.specs.Layouts.{asked_by, layout_of}
 use Rattle.state_manifest_codec.specs.Tables.{prior}
-use Rattle.state_manifest_codec.proofs.Numbers.{numbered-high}
+use Rattle.state_manifest_codec.proofs.Numbers.{numbered_high}
 
 -- an entry is held against the one before it alone
-abbrev last_only : Rule → Bool
+abbrev pub last_only : Rule → Bool
 last_only free = true
 last_only (distinct r) = false
 last_only (early r) = true
@@ -39,16 +41,16 @@ numbered-plain n = go (dec_lt n 13)
 
     go : Dec (n < 13) → plain_list (numbered n) ≡ true
     go (yes h) = all-below (λ i. plain_list (numbered i)) 13 n below h
-    go (no h) = sym (numbered-high plain_list {n = n} (omega (arith, h)) refl)
+    go (no h) = ap plain_list (numbered_high n (omega (arith, h)))
 
 -- an entry's key has four bytes at least
 pub key-least : (n : ℕ) → 4 ≤ least (numbered n).key
 key-least n = leb-true _ _ (both (leb 4 (least (numbered n).key)) _ (numbered-plain n)).0
 
-last-only : (n : ℕ) → last_only (numbered n).rule ≡ true
+pub last-only : (n : ℕ) → last_only (numbered n).rule ≡ true
 last-only n = (both (leb 4 (least (numbered n).key)) _ (numbered-plain n)).1
 
-unasked : (u : Rule) (ks : List (List ℕ)) → last_only u ≡ true → after_all u ks ≡ true
+pub unasked : (u : Rule) (ks : List (List ℕ)) → last_only u ≡ true → after_all u ks ≡ true
 unasked free ks h = refl
 unasked (distinct r) ks h = let z : ◌≡◌ {A = ℕ} 0 1 = cc in absurd (omega arith)
 unasked (early r) ks h = refl
@@ -60,17 +62,18 @@ keeps (distinct r) k ks h = let z : ◌≡◌ {A = ℕ} 0 1 = cc in absurd (omeg
 keeps (early r) k ks h = refl
 keeps (late r) k ks h = refl
 
-asked-early : (u : Rule) (k : List ℕ) (ks : List (List ℕ)) → after_key u k ks ≡ cond (is_early u) (above k ks) true
-asked-early free k ks = refl
-asked-early (distinct r) k ks = refl
-asked-early (early r) k ks = refl
-asked-early (late r) k ks = refl
+-- question 9 right after a key, and after an entry
+key-asked : (u : Rule) (k : List ℕ) (ks : List (List ℕ)) {b : Bool} → (asked_by u ≡ AfterKey → b ≡ above k ks) → ((asked_by u ≡ AfterKey → ⊥) → b ≡ true) → after_key u k ks ≡ b
+key-asked free k ks a n = sym (n (λ e. cc))
+key-asked (distinct r) k ks a n = sym (n (λ e. cc))
+key-asked (early r) k ks a n = sym (a refl)
+key-asked (late r) k ks a n = sym (n (λ e. cc))
 
-asked-late : (u : Rule) (k : List ℕ) (ks : List (List ℕ)) → after_entry u k ks ≡ cond (is_late u) (above k ks) true
-asked-late free k ks = refl
-asked-late (distinct r) k ks = refl
-asked-late (early r) k ks = refl
-asked-late (late r) k ks = refl
+entry-asked : (u : Rule) (k : List ℕ) (ks : List (List ℕ)) {b : Bool} → (asked_by u ≡ AfterEntry → b ≡ above k ks) → ((asked_by u ≡ AfterEntry → ⊥) → b ≡ true) → after_entry u k ks ≡ b
+entry-asked free k ks a n = sym (n (λ e. cc))
+entry-asked (distinct r) k ks a n = sym (n (λ e. cc))
+entry-asked (early r) k ks a n = sym (n (λ e. cc))
+entry-asked (late r) k ks a n = sym (a refl)
 
 skips : (u : Rule) (p : ℕ) → from u p ≡ p + from u 0
 skips free p = sym (add-zero p)
@@ -90,29 +93,23 @@ skip-four (early plain) = omega arith
 skip-four (late wire) = omega arith
 skip-four (late plain) = omega arith
 
-module _ (n : ℕ) where
-  pub nothing-more : (ks : List (List ℕ)) → after_all (numbered n).rule ks ≡ true
-  nothing-more ks = unasked (numbered n).rule ks (last-only n)
+-- of any section whose layout it is
+module _ (e : Section) {layout : Layout} (l : layout ≡ layout_of e) where
+  pub skip-small : layout.skip ≤ 4
+  skip-small = rw l (skip-four e.rule)
 
-  module _ {layout : Layout} (l : layout ≡ layout_of (numbered n)) where
-    pub skip-small : layout.skip ≤ 4
-    skip-small = rw l (skip-four (numbered n).rule)
+  asks : layout.asked ≡ asked_by e.rule
+  asks = ap (λ (x : Layout). x.asked) l
 
-    module _ (s : List ℕ) (p k : ℕ) (ks : List (List ℕ)) where
-      from-skip : span s (from (numbered n).rule p) k ≡ span s (p + layout.skip) k
-      from-skip = rw (l, skips (numbered n).rule p)
+  module _ (s : List ℕ) (p k : ℕ) (ks : List (List ℕ)) where
+    from-skip : span s (from e.rule p) k ≡ span s (p + layout.skip) k
+    from-skip = rw (l, skips e.rule p)
 
-      pub early-told : {b c : Bool} → b ≡ cond layout.early (above (span s (p + layout.skip) k) ks) true → b ≡ c → after_key (numbered n).rule (span s (from (numbered n).rule p) k) ks ≡ c
-      early-told e h =
-          asked-early (numbered n).rule _ ks
-          ∙ ap (λ x. cond (is_early (numbered n).rule) (above x ks) true) from-skip
-          ∙ ap (λ (x : Layout). cond x.early (above (span s (p + layout.skip) k) ks) true) (sym l) ∙ sym e ∙ h
+    pub key-told : {b c : Bool} → (layout.asked ≡ AfterKey → b ≡ above (span s (p + layout.skip) k) ks) → ((layout.asked ≡ AfterKey → ⊥) → b ≡ true) → b ≡ c → after_key e.rule (span s (from e.rule p) k) ks ≡ c
+    key-told a n h = ap (λ x. after_key e.rule x ks) from-skip ∙ key-asked e.rule _ ks (λ q. a (asks ∙ q)) (λ q. n (λ z. q (sym asks ∙ z))) ∙ h
 
-      pub late-told : {b c : Bool} → b ≡ cond layout.late (above (span s (p + layout.skip) k) ks) true → b ≡ c → after_entry (numbered n).rule (span s (from (numbered n).rule p) k) ks ≡ c
-      late-told e h =
-          asked-late (numbered n).rule _ ks
-          ∙ ap (λ x. cond (is_late (numbered n).rule) (above x ks) true) from-skip
-          ∙ ap (λ (x : Layout). cond x.late (above (span s (p + layout.skip) k) ks) true) (sym l) ∙ sym e ∙ h
+    pub entry-told : {b c : Bool} → (layout.asked ≡ AfterEntry → b ≡ above (span s (p + layout.skip) k) ks) → ((layout.asked ≡ AfterEntry → ⊥) → b ≡ true) → b ≡ c → after_entry e.rule (span s (from e.rule p) k) ks ≡ c
+    entry-told a n h = ap (λ x. after_entry e.rule x ks) from-skip ∙ entry-asked e.rule _ ks (λ q. a (asks ∙ q)) (λ q. n (λ z. q (sym asks ∙ z))) ∙ h
 
-      pub key-kept : kept (numbered n).rule (span s (from (numbered n).rule p) k) ks ≡ prior true (span s (p + layout.skip) k)
-      key-kept = keeps (numbered n).rule _ ks (last-only n) ∙ ap (λ x. x ∷ []) from-skip
+    pub key-kept : last_only e.rule ≡ true → kept e.rule (span s (from e.rule p) k) ks ≡ prior (Some (span s (p + layout.skip) k))
+    key-kept h = keeps e.rule _ ks h ∙ ap (λ x. x ∷ []) from-skip

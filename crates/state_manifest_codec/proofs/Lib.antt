@@ -1,3 +1,4 @@
+mod Ascending
 mod Choices
 mod Filling
 mod Laid

@@ -1,37 +1,55 @@
--- Sections by their numbers, as code finds them that compares a number with each: what holds of the section found holds of the one numbered.
+-- Sections by their numbers: numbers below 2 count as 2, those above 12 as 12.
 use Prim.Native.Nat.{ℕ, zero, suc, ◌-◌, ◌≤◌, ◌<◌}
 use native.Mathlib.Omega.{arith}
 use native.Mathlib.Decide.{ℕ_discrete}
-use mathlib.Core.Path.{◌≡◌, refl, sym, ap, ◌∙◌}
+use mathlib.Core.Path.{◌≡◌, refl, sym, ap}
+use mathlib.Core.List.{List}
+use Rattle.std.specs.Prelude.{Ok}
 use lib.ListN.{get_or-eq_default}
+use Rattle.format.specs.Format.{Fmt, done, text, scan}
+use Rattle.format.proofs.Steps.{text-step, done-step}
 use Rattle.format.specs.Manifest.{Section, enums, input_definitions, lists, numbered}
 
-module _ {A : Type 0} (f : Section → A) {r : A} {n : ℕ} where
-  pub numbered-low : n ≤ 2 → r ≡ f enums → r ≡ f (numbered n)
-  unfolding numbered
-  numbered-low h p = p ∙ go n h
-    where
-      go : (n : ℕ) → n ≤ 2 → f enums ≡ f (numbered n)
-      go zero h = refl
-      go (suc zero) h = refl
-      go (suc (suc zero)) h = refl
-      go (suc (suc (suc n))) h = absurd (omega arith)
+pub numbered_low : (n : ℕ) → n ≤ 2 → numbered n ≡ enums
+unfolding numbered
+numbered_low zero h = refl
+numbered_low (suc zero) h = refl
+numbered_low (suc (suc zero)) h = refl
+numbered_low (suc (suc (suc n))) h = absurd (omega arith)
 
-  pub numbered-at : (c : ℕ) → c < n → n ≤ suc c → r ≡ f (numbered (suc c)) → r ≡ f (numbered n)
-  numbered-at c h i p = let e : suc c ≡ n = omega arith in p ∙ ap (λ (x : ℕ). f (numbered x)) e
+pub numbered_high : (n : ℕ) → 11 < n → numbered n ≡ input_definitions
+unfolding numbered
+numbered_high n h = go (ℕ_discrete 12 n)
+  where
+    go : Dec (12 ≡ n) → numbered n ≡ input_definitions
+    go (yes e) = ap numbered (sym e)
+    go (no d) = get_or-eq_default lists input_definitions {n = n - 2} (omega (arith, d))
 
-  -- one of several that agree
-  pub numbered_more : (c : ℕ) → c < n → r ≡ f (numbered (suc c)) → (suc c < n → r ≡ f (numbered n)) → r ≡ f (numbered n)
-  numbered_more c h p k = go (ℕ_discrete (suc c) n)
-    where
-      go : Dec (suc c ≡ n) → r ≡ f (numbered n)
-      go (yes e) = p ∙ ap (λ (x : ℕ). f (numbered x)) e
-      go (no d) = k (omega (arith, d))
+-- classes, boundary outputs and input definitions go by a text
+pub text-low : (n : ℕ) → n ≤ 2 → (numbered n).key ≡ text
+text-low n h = ap (λ (e : Section). e.key) (numbered_low n h)
 
-  pub numbered-high : 11 < n → r ≡ f input_definitions → r ≡ f (numbered n)
-  unfolding numbered
-  numbered-high h p = go (ℕ_discrete 12 n)
-    where
-      go : Dec (12 ≡ n) → r ≡ f (numbered n)
-      go (yes e) = p ∙ ap (λ (x : ℕ). f (numbered x)) e
-      go (no d) = p ∙ ap f (sym (get_or-eq_default lists input_definitions {n = n - 2} (omega (arith, d))))
+pub text-high : (n : ℕ) → 10 < n → (numbered n).key ≡ text
+unfolding numbered
+text-high n h = go (ℕ_discrete 11 n)
+  where
+    go : Dec (11 ≡ n) → (numbered n).key ≡ text
+    go (yes e) = ap (λ (x : ℕ). (numbered x).key) (sym e)
+    go (no d) = ap (λ (e : Section). e.key) (numbered_high n (omega (arith, d)))
+
+-- an entry of the connections, the schedule, the connector order or the external inputs is a key alone
+pub key-alone : (n : ℕ) → 4 < n → n < 8 → (numbered n).rest ≡ done
+unfolding numbered
+key-alone n h i = go (ℕ_discrete 5 n) (ℕ_discrete 6 n)
+  where
+    go : Dec (5 ≡ n) → Dec (6 ≡ n) → (numbered n).rest ≡ done
+    go (yes e) f = ap (λ (x : ℕ). (numbered x).rest) (sym e)
+    go (no d) (yes e) = ap (λ (x : ℕ). (numbered x).rest) (sym e)
+    go (no d) (no f) = let e : 7 ≡ n = omega (arith, d, f) in ap (λ (x : ℕ). (numbered x).rest) (sym e)
+
+pub reads-none : (limit : ℕ) (f : Fmt) (s : List ℕ) (at : ℕ) → f ≡ done → Ok at ≡ scan limit f s at
+reads-none limit f s at e = rw e (done-step limit s at)
+
+pub ruleset numbered_found = (numbered_low, numbered_high)
+
+pub ruleset key_found = (text-low, text-high, text-step)

@@ -1,20 +1,15 @@
 -- What of a section's format its loop needs to know: `Layout`.
-use Rattle.std.specs.Prelude.{Bool, true, false}
 use Rattle.format.specs.Format.{Rule, free, distinct, early, late, from}
 use Rattle.format.specs.Manifest.{Section}
+use Rattle.state_manifest_codec.specs.declared.layouts.Asked.{Asked}
+use Rattle.state_manifest_codec.specs.declared.layouts.Asked.TheVariants.{Never, AfterKey, AfterEntry}
 use Rattle.state_manifest_codec.specs.declared.layouts.Layout.{Layout}
 
-abbrev pub is_early : Rule → Bool
-is_early free = false
-is_early (distinct r) = false
-is_early (early r) = true
-is_early (late r) = false
-
-abbrev pub is_late : Rule → Bool
-is_late free = false
-is_late (distinct r) = false
-is_late (early r) = false
-is_late (late r) = true
+abbrev pub asked_by : Rule → Asked
+asked_by free = Never
+asked_by (distinct r) = Never
+asked_by (early r) = AfterKey
+asked_by (late r) = AfterEntry
 
 abbrev pub layout_of : Section → Layout
-layout_of e = record { least = e.least; skip = from e.rule 0; early = is_early e.rule; late = is_late e.rule }
+layout_of e = record { least = e.least; skip = from e.rule 0; asked = asked_by e.rule }

@@ -1,3 +1,4 @@
 pub mod Tables
 pub mod Layouts
+pub mod Readers
 pub mod Reads

@@ -1,12 +1,12 @@
 -- What the readers promise of the lent index while they fill it: their private contracts.
 use Rattle.state.specs.Outcome.{Stepped}
-use Rattle.std.specs.Prelude.{ℕ, ◌+◌, ◌*◌, ◌≤◌, ◌≡◌, Bool, true, false, List, [], ◌∷◌, ◌++◌, length, take, Ok}
+use Rattle.std.specs.Prelude.{ℕ, ◌+◌, ◌*◌, ◌≤◌, ◌≡◌, Option, Some, None, List, [], ◌∷◌, ◌++◌, length, take, Ok}
 use Rattle.state_wire.specs.Fields.{max_snapshot_bytes}
 
 -- the key before, if there is one
-abbrev pub prior : Bool → List ℕ → List (List ℕ)
-prior false k = []
-prior true k = k ∷ []
+abbrev pub prior : Option (List ℕ) → List (List ℕ)
+prior None = []
+prior (Some k) = k ∷ []
 
 -- there are words for what is left of the bytes: those in use are at most 12 and half as many as the bytes read
 pub record Room (s index : List ℕ) (at w : ℕ) : Type 0 where

@@ -1,84 +1,48 @@
 // How each list of a manifest is laid out.
-ghost use Rattle.std.specs.Prelude.{◌≡◌, true, false};
+ghost use Rattle.std.specs.Prelude.{◌≡◌};
 ghost use Rattle.format.specs.Manifest.{numbered};
 ghost use Rattle.state_manifest_codec.specs.Layouts.{layout_of};
 
 use state::Section;
 
+// When question 9, whether a key is above the one before it, is asked about the entries of a list.
+#[derive(Clone, Copy, PartialEq, Eq)]
+pub enum Asked {
+    Never,
+    AfterKey,
+    AfterEntry,
+}
+
 // How the list of a section is read: the least bytes of an entry, how many bytes of a key are passed over in the order, and
-// whether the order is asked right after the key or after the entry.
+// when the order is asked.
 #[derive(Clone, Copy)]
 pub struct Layout {
     pub least: u64,
     pub skip: usize,
-    pub early: bool,
-    pub late: bool,
+    pub asked: Asked,
 }
 
-fn ascending(least: u64) -> Layout
-    ensures { result ≡ record { least = least; skip = 0; early = false; late = true } }
+fn laid(least: u64, skip: usize, asked: Asked) -> Layout
+    ensures { result ≡ record { least = least; skip = skip; asked = asked } }
 {
-    Layout {
-        least,
-        skip: 0,
-        early: false,
-        late: true,
-    }
+    Layout { least, skip, asked }
 }
 
-fn unordered(least: u64) -> Layout
-    ensures { result ≡ record { least = least; skip = 0; early = false; late = false } }
-{
-    Layout {
-        least,
-        skip: 0,
-        early: false,
-        late: false,
-    }
-}
-
+#[tactic(auto, using(crate::proofs::Numbers::numbered_found), unfolding(format::specs::Manifest::numbered))]
 pub fn layout_of(section: u8) -> Layout
     ensures { result ≡ layout_of (numbered section) }
 {
-    if section <= Section::ENUMS {
-        return Layout {
-            least: 8,
-            skip: 4,
-            early: false,
-            late: true,
-        };
-    }
-    if section <= Section::BLOCKS {
-        return ascending(34);
-    }
-    if section <= Section::CONNECTORS {
-        return ascending(19);
-    }
-    if section <= Section::CONNECTIONS {
-        return ascending(20);
-    }
-    if section <= Section::SCHEDULE {
-        return unordered(5);
-    }
-    if section <= Section::CONNECTOR_ORDER {
-        return unordered(10);
-    }
-    if section <= Section::DRIVER_OF {
-        return ascending(20);
-    }
-    if section <= Section::STATE_SLOTS {
-        return ascending(21);
-    }
-    if section <= Section::EXTERNAL_INPUTS {
-        return unordered(10);
-    }
-    if section <= Section::BOUNDARY_OUTPUTS {
-        return unordered(14);
-    }
-    Layout {
-        least: 7,
-        skip: 4,
-        early: true,
-        late: false,
+    match section {
+        ..=Section::ENUMS => laid(8, 4, Asked::AfterEntry),
+        Section::BLOCKS => laid(34, 0, Asked::AfterEntry),
+        Section::CONNECTORS => laid(19, 0, Asked::AfterEntry),
+        Section::CONNECTIONS => laid(20, 0, Asked::AfterEntry),
+        Section::SCHEDULE => laid(5, 0, Asked::Never),
+        Section::CONNECTOR_ORDER => laid(10, 0, Asked::Never),
+        Section::DRIVER_OF => laid(20, 0, Asked::AfterEntry),
+        Section::STATE_SLOTS => laid(21, 0, Asked::AfterEntry),
+        Section::EXTERNAL_INPUTS => laid(10, 0, Asked::Never),
+        Section::BOUNDARY_OUTPUTS => laid(14, 0, Asked::Never),
+        _ => laid(7, 4, Asked::AfterKey),
     }
 }

@@ -17,7 +17,7 @@ ghost use Rattle.state_manifest_codec.specs.Reads.{Reads};
 
 use state::{MAX_SNAPSHOT_BYTES, Question, Refusal, Section, Step};
 use state_wire::number_at;
-use tables::{narrow, read_list};
+use tables::read_list;
 use values::read_portability;
 
 // The twelve sections: where they start goes into the first twelve words, where their entries start into the words after these.
@@ -30,18 +30,16 @@ fn read_sections(s: &[u8], index: &mut [u32]) -> Step
         return first;
     };
     index[0] = 0;
-    let mut section = Section::ENUMS;
     let mut at = p;
     let mut word = 12;
-    while section <= Section::INPUT_DEFINITIONS {
-        index[section as usize - 1] = narrow(at);
+    for section in Section::ENUMS..=Section::INPUT_DEFINITIONS {
+        index[section as usize - 1] = at as u32;
         let list = read_list(s, section, at, index, word);
         let Ok(e) = list else {
             return list;
         };
         word += number_at::<4>(s, at) as usize;
         at = e;
-        section += 1;
     }
     Ok(at)
 }

@@ -1,12 +1,14 @@
 // Lists inside entries: a count, then the entries.
-ghost use Rattle.std.specs.Prelude.{◌≡◌, true, cond};
-ghost use Rattle.state.specs.Bytes.{span};
+ghost use Rattle.std.specs.Prelude.{◌≡◌, true, option_map};
 ghost use Rattle.state.specs.Outcome.{field_of};
 ghost use Rattle.state_wire.specs.Fields.{read_count, max_snapshot_bytes};
 ghost use Rattle.format.specs.Format.{above, scan};
-ghost use Rattle.format.specs.Manifest.{params, connector_keys};
+ghost use Rattle.format.specs.Manifest.{Section, counted, params, connector_keys};
 ghost use Rattle.state_manifest_codec.specs.Tables.{prior};
+ghost use Rattle.state_manifest_codec.specs.Layouts.{layout_of};
+ghost use Rattle.state_manifest_codec.specs.Readers.{ReadsAs};
 
+use crate::layouts::Asked;
 use crate::values::read_value;
 use state::{Field, Question, Refusal, Step};
 use state_key_order::{precedes, read_connector_key};
@@ -23,28 +25,75 @@ pub fn read_count(s: &[u8], at: usize, least: u64) -> Field
     bounded_count(s, next, n, least)
 }
 
-// Question 9, where it is asked: whether the key from a up to b is above the one before it, from..to, if there is one.
-pub fn key_above(
-    s: &[u8],
-    asked: bool,
-    any: bool,
-    from: usize,
-    to: usize,
-    a: usize,
-    b: usize,
-) -> bool
-    ensures { result ≡ cond asked (above (span s.now a b) (prior any (span s.now from to))) true }
+// Question 9: whether a key is above the one before it, if there is one.
+pub fn key_above(last: Option<&[u8]>, key: &[u8]) -> bool
+    ensures { result ≡ above key.now (prior (option_map (λ k. k.now) last.entry)) }
 {
-    if asked {
-        if any {
-            return precedes(part(s, from, to), part(s, a, b));
-        }
-        return true;
-    }
-    true
+    last.is_none_or(|before| precedes(before, key))
 }
 
-// A block's inputs or outputs.
+// The same where it is asked `now`; elsewhere the answer is yes.
+pub(crate) fn in_order(asked: Asked, now: Asked, last: Option<&[u8]>, key: &[u8]) -> bool
+    ensures asked { asked ≡ now → result ≡ above key.now (prior (option_map (λ k. k.now) last.entry)) }
+    ensures unasked { ¬ (asked ≡ now) → result ≡ true }
+{
+    asked != now || key_above(last, key)
+}
+
+// A list of entries whose keys ascend, by their bytes from `skip` on.
+pub fn read_ascending<K: Fn(&[u8], usize) -> Step, R: Fn(&[u8], usize) -> Step>(
+    s: &[u8],
+    at: usize,
+    least: u64,
+    skip: usize,
+    read_key: K,
+    read_rest: R,
+) -> Step
+    ghost e: { Section }
+    requires laid { layout_of e ≡ record { least = least; skip = skip; asked = Asked.AfterEntry } }
+    requires key_callable { K.IsAlwaysCallable read_key }
+    requires key { ReadsAs (K.post read_key s) e.key s.now }
+    requires rest_callable { R.IsAlwaysCallable read_rest }
+    requires rest { ReadsAs (R.post read_rest s) e.rest s.now }
+    ensures { result ≡ scan max_snapshot_bytes (counted e) s.now at }
+{
+    let count = read_count(s, at, least);
+    let Ok((n, first)) = count else {
+        return step_of(count);
+    };
+    let mut last = None;
+    let mut p = first;
+    for _ in 0..n {
+        let key = read_key(s, p);
+        let Ok(k) = key else {
+            return key;
+        };
+        let rest = read_rest(s, k);
+        let Ok(e) = rest else {
+            return rest;
+        };
+        let ranked = part(s, p + skip, k);
+        if !key_above(last, ranked) {
+            return Err(Refusal {
+                question: Question(9),
+                at: e,
+            });
+        }
+        last = Some(ranked);
+        p = e;
+    }
+    Ok(p)
+}
+
+// A block's parameters.
+#[tactic(auto, unfolding(format::specs::Format::scan, format::specs::Format::read, format::specs::Manifest::params))]
+pub fn read_parameters(s: &[u8], at: usize) -> Step
+    ensures { result ≡ scan max_snapshot_bytes params s.now at }
+{
+    read_ascending(s, at, 6, 4, string, read_value)
+}
+
+// A block's inputs or outputs. Their order is free and nothing follows a key, so they are not read by `read_ascending`.
 pub fn read_connector_keys(s: &[u8], at: usize) -> Step
     ensures { result ≡ scan max_snapshot_bytes connector_keys s.now at }
 {
@@ -52,53 +101,13 @@ pub fn read_connector_keys(s: &[u8], at: usize) -> Step
     let Ok((n, first)) = count else {
         return step_of(count);
     };
-    let mut left = n;
     let mut p = first;
-    while 0 < left {
+    for _ in 0..n {
         let key = read_connector_key(s, p);
         let Ok(e) = key else {
             return key;
         };
         p = e;
-        left -= 1;
-    }
-    Ok(p)
-}
-
-// A block's parameters.
-pub fn read_parameters(s: &[u8], at: usize) -> Step
-    ensures { result ≡ scan max_snapshot_bytes params s.now at }
-{
-    let count = read_count(s, at, 6);
-    let Ok((n, first)) = count else {
-        return step_of(count);
-    };
-    let mut left = n;
-    let mut p = first;
-    let mut any = false;
-    let mut from = first;
-    let mut to = first;
-    while 0 < left {
-        let name = string(s, p);
-        let Ok(k) = name else {
-            return name;
-        };
-        let value = read_value(s, k);
-        let Ok(e) = value else {
-            return value;
-        };
-        if key_above(s, true, any, from, to, p + 4, k) {
-            any = true;
-            from = p + 4;
-            to = k;
-            p = e;
-            left -= 1;
-        } else {
-            return Err(Refusal {
-                question: Question(9),
-                at: e,
-            });
-        }
     }
     Ok(p)
 }

@@ -1,8 +1,9 @@
 // Values, their types, and what may be left out.
 ghost use Rattle.std.specs.Prelude.{◌≡◌};
 ghost use Rattle.state_wire.specs.Fields.{max_snapshot_bytes};
-ghost use Rattle.format.specs.Format.{scan, text, ◌then◌};
+ghost use Rattle.format.specs.Format.{Fmt, scan, text, number, ◌then◌};
 ghost use Rattle.format.specs.Manifest.{value, value_type, optional, portability};
+ghost use Rattle.state_manifest_codec.specs.Readers.{ReadsAs};
 
 use state::{Portability, Step, WireValueType};
 use state_wire::{read_tag, step_of, string, take};
@@ -14,10 +15,22 @@ pub fn read_value_type(s: &[u8], at: usize) -> Step
     let Ok((t, next)) = tag else {
         return step_of(tag);
     };
-    if t == WireValueType::ENUM {
+    let of_class = t == WireValueType::ENUM;
+    if of_class {
         return string(s, next);
     }
     Ok(next)
+}
+
+// An enum's class path and ordinal.
+fn read_ordinal(s: &[u8], at: usize) -> Step
+    ensures { result ≡ scan max_snapshot_bytes (text then number 4) s.now at }
+{
+    let class = string(s, at);
+    let Ok(ordinal) = class else {
+        return class;
+    };
+    take(s, ordinal, 4)
 }
 
 pub fn read_value(s: &[u8], at: usize) -> Step
@@ -27,54 +40,47 @@ pub fn read_value(s: &[u8], at: usize) -> Step
     let Ok((t, next)) = tag else {
         return step_of(tag);
     };
-    if t == WireValueType::REAL {
-        return take(s, next, 8);
+    match t {
+        WireValueType::REAL | WireValueType::INTEGER => take(s, next, 8),
+        WireValueType::BOOLEAN => step_of(read_tag(s, next, 2)),
+        WireValueType::STRING => string(s, next),
+        _ => read_ordinal(s, next),
     }
-    if t == WireValueType::INTEGER {
-        return take(s, next, 8);
-    }
-    if t == WireValueType::BOOLEAN {
-        return step_of(read_tag(s, next, 2));
-    }
-    let text = string(s, next);
-    if t == WireValueType::STRING {
-        return text;
-    }
-    let Ok(ordinal) = text else {
-        return text;
+}
+
+// What may be left out: a Boolean byte, and what it says is there.
+fn read_optional<F: Fn(&[u8], usize) -> Step>(s: &[u8], at: usize, read: F) -> Step
+    ghost fmt: { Fmt }
+    requires callable { F.IsAlwaysCallable read }
+    requires reads { ReadsAs (F.post read s) fmt s.now }
+    ensures { result ≡ scan max_snapshot_bytes (optional fmt) s.now at }
+{
+    let tag = read_tag(s, at, 2);
+    let Ok((there, next)) = tag else {
+        return step_of(tag);
     };
-    take(s, ordinal, 4)
+    if there == 0 {
+        return Ok(next);
+    }
+    read(s, next)
 }
 
 // A unit or a quantity.
+#[tactic(auto, unfolding(format::specs::Format::scan, format::specs::Format::read))]
 pub fn read_optional_text(s: &[u8], at: usize) -> Step
     ensures { result ≡ scan max_snapshot_bytes (optional text) s.now at }
 {
-    let tag = read_tag(s, at, 2);
-    let Ok((t, next)) = tag else {
-        return step_of(tag);
-    };
-    if t == 0 {
-        return Ok(next);
-    }
-    string(s, next)
+    read_optional(s, at, string)
 }
 
 // A minimum or a maximum.
 pub fn read_bound(s: &[u8], at: usize) -> Step
     ensures { result ≡ scan max_snapshot_bytes (optional value) s.now at }
 {
-    let tag = read_tag(s, at, 2);
-    let Ok((t, next)) = tag else {
-        return step_of(tag);
-    };
-    if t == 0 {
-        return Ok(next);
-    }
-    read_value(s, next)
+    read_optional(s, at, read_value)
 }
 
-// Section 1: portable, or the names of an architecture and a system.
+// Section 1: portable, or the names of an architecture and a system. Its tags have names, so it is no `read_optional`.
 pub fn read_portability(s: &[u8], at: usize) -> Step
     ensures { result ≡ scan max_snapshot_bytes portability s.now at }
 {

@@ -1,4 +1,5 @@
 use mathlib.Core.Path.{sym}
+use native.Mathlib.Omega.{arith}
 use Rattle.state_manifest_codec.proofs.Whole.{too_long, too_few, words-lent, sections-room, sections-stop, all_read, left_over}
 use Rattle.state_manifest_codec.proofs.read_manifest.Goals as goal
 
@@ -18,7 +19,7 @@ pub returns-in_default : goal.returns-in_default
 returns-in_default c = sections-stop _ _ c.if-s-gt-MAX_SNAPSHOT_BYTES.false c.if-index-words.false c.read_sections-sections.ensures c.in_default.is
 
 pub returns-then-e-s : goal.returns-then-e-s
-returns-then-e-s c = all_read _ _ c.if-s-gt-MAX_SNAPSHOT_BYTES.false c.if-index-words.false c.read_sections-sections.ensures c.in-Ok.is c.if-e-s.true
+returns-then-e-s c = all_read _ _ c.if-s-gt-MAX_SNAPSHOT_BYTES.false c.if-index-words.false c.read_sections-sections.ensures c.in-Ok.is (omega arith)
 
 pub returns-else-e-s : goal.returns-else-e-s
-returns-else-e-s c = left_over _ _ c.if-s-gt-MAX_SNAPSHOT_BYTES.false c.if-index-words.false c.read_sections-sections.ensures c.in-Ok.is c.if-e-s.false
+returns-else-e-s c = left_over _ _ c.if-s-gt-MAX_SNAPSHOT_BYTES.false c.if-index-words.false c.read_sections-sections.ensures c.in-Ok.is (λ h. omega arith)

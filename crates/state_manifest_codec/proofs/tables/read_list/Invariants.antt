@@ -1,9 +1,8 @@
+use Prim.Native.Nat.{◌-◌}
+use Rattle.std.proofs.Common.{option_map}
 use Rattle.state_wire.specs.Fields.{max_snapshot_bytes}
 use Rattle.state_manifest_codec.proofs.Walking.{Walking}
 use Rattle.state_manifest_codec.proofs.tables.read_list.Given as goal
 
-abbrev pub invariant-loop-left : goal.invariant-loop-left
-invariant-loop-left l = Walking max_snapshot_bytes l.section l.layout l.s l.at l.word l.initial.index l.left l.p l.any l.from l.to l.w l.index
-
-abbrev pub decreases-loop-left : goal.decreases-loop-left
-decreases-loop-left l = l.left
+abbrev pub invariant-loop : goal.invariant-loop
+invariant-loop l = Walking max_snapshot_bytes l.section l.layout l.s l.at l.word l.initial.index (l.n - l.counter) l.p (option_map (λ k. k.now) l.last) l.w l.index

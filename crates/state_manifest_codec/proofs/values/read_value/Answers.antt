@@ -1,33 +1,30 @@
-use Rattle.state_manifest_codec.proofs.Choices.{fifth}
-use Rattle.state_wire.proofs.Fields.{tag_below}
 use Rattle.format.specs.Manifest.{value}
-use Rattle.format.proofs.Steps.{steps}
+use Rattle.format.proofs.Steps.{steps, tagged-as, taken_step}
+use native.Mathlib.Omega.{arith}
+use mathlib.Core.Path.{◌≡◌}
+use Prim.Native.Nat.{◌<◌}
+use Rattle.format.specs.Format.{number, tag, text, ◌then◌}
+use mathlib.Core.List.{[], ◌∷◌}
+use Rattle.state_wire.proofs.Fields.{tag_below}
+use Rattle.state_manifest_codec.proofs.Choices.{either-number}
 use Rattle.state_manifest_codec.proofs.values.read_value.Goals as goal
 
 pub returns-in_default : goal.returns-in_default
 unfolding value
 returns-in_default c = search steps
 
-pub returns-then-t-eq-REAL : goal.returns-then-t-eq-REAL
+pub returns-in-0 : goal.returns-in-0
 unfolding value
-returns-then-t-eq-REAL c = search steps
+returns-in-0 c = tagged-as _ _ _ 5 _ (number 8) c.read_tag-tag.ensures c.in-Ok.is (let b : c.in-Ok.t < 2 = omega arith in either-number (number 8) (tag 2 ∷ text ∷ (text then number 4) ∷ []) _ b) (taken_step _ _ _ 8 c.take.ensures)
 
-pub returns-then-t-eq-INTEGER : goal.returns-then-t-eq-INTEGER
+pub returns-in-2 : goal.returns-in-2
 unfolding value
-returns-then-t-eq-INTEGER c = search steps
+returns-in-2 c = search steps
 
-pub returns-then-t-eq-BOOLEAN : goal.returns-then-t-eq-BOOLEAN
+pub returns-in-3 : goal.returns-in-3
 unfolding value
-returns-then-t-eq-BOOLEAN c = search steps
+returns-in-3 c = search steps
 
-pub returns-then-t-eq-STRING : goal.returns-then-t-eq-STRING
+pub returns-in_default-t : goal.returns-in_default-t
 unfolding value
-returns-then-t-eq-STRING c = search steps
-
-pub returns-in_default-text : goal.returns-in_default-text
-unfolding value
-returns-in_default-text c = let e = fifth _ (tag_below _ _ _ c.read_tag-tag.ensures c.in-Ok.is) c.if-t-eq-REAL.false c.if-t-eq-INTEGER.false c.if-t-eq-BOOLEAN.false c.if-t-eq-STRING.false in search steps
-
-pub returns : goal.returns
-unfolding value
-returns c = let e = fifth _ (tag_below _ _ _ c.read_tag-tag.ensures c.in-Ok.is) c.if-t-eq-REAL.false c.if-t-eq-INTEGER.false c.if-t-eq-BOOLEAN.false c.if-t-eq-STRING.false in search steps
+returns-in_default-t c = let e : c.in-Ok.t ≡ 4 = omega (arith, tag_below _ _ _ c.read_tag-tag.ensures c.in-Ok.is) in search steps
