@@ -9,12 +9,6 @@ use Rattle.state_declarations.proofs.sets.mark_all_parameters.Goals as goal
 pub loop-i-init : goal.loop-i-init
 loop-i-init c = marking-start c.requires.keyed refl
 
-pub word_at-requires : goal.word_at-requires
-word_at-requires c = omega (arith, c.loop-i.invariant.keyed.fits, c.requires.below)
-
-pub mark_parameters-requires : goal.mark_parameters-requires
-mark_parameters-requires c = c.loop-i.invariant.keyed
-
 pub returns-in_err-next : goal.returns-in_err-next
 returns-in_err-next c =
     words-failed (value_at (entry blocks) c.args.s.now) param_classes c.loop-i.invariant c.loop-i-test.true c.requires.below c.word_at.ensures c.mark_parameters.ensures c.in_err-next.was c.from_residual.ensures

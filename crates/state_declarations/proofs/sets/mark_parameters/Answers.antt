@@ -5,9 +5,6 @@ pub loop-init : goal.loop-init
 loop-init c =
     classes-start _ c.requires c.parameters_at-list.ensures c.count_at-end.ensures c.ahead-p.ensures
 
-pub mark_class-requires : goal.mark_class-requires
-mark_class-requires c = c.loop.invariant.keyed
-
 pub returns-in_err-next : goal.returns-in_err-next
 returns-in_err-next c =
     classes-fail _ _ _ _ c.loop.invariant c.loop-test.true c.text_end-v.ensures c.mark_class.ensures c.in_err-next.was c.from_residual.ensures

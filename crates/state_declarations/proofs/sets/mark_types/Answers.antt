@@ -10,12 +10,6 @@ use Rattle.state_declarations.proofs.sets.mark_types.Goals as goal
 pub loop-i-init : goal.loop-i-init
 loop-i-init c = marking-start c.requires.keyed refl
 
-pub word_at-requires : goal.word_at-requires
-word_at-requires c = omega (arith, c.loop-i.invariant.keyed.fits, c.requires.below)
-
-pub mark_class-requires : goal.mark_class-requires
-mark_class-requires c = c.loop-i.invariant.keyed
-
 pub returns-in_err-next : goal.returns-in_err-next
 returns-in_err-next c =
     words-failed (value_at (entry connectors) c.args.s.now) types_of c.loop-i.invariant c.loop-i-test.true c.requires.below c.word_at.ensures (rw (type-class _ _ c.connector_type_at-at.ensures) c.mark_class.ensures) c.in_err-next.was c.from_residual.ensures
