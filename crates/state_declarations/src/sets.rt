@@ -66,7 +66,8 @@ fn mark_ports(
     mark_keys(s, index, connectors, marks, outputs, next)
 }
 
-// Marks the connectors that are ports of a block.
+// Marks the connectors that are ports of a block. It, `mark_all_parameters` and `mark_types` are no one function over a closure: with a `&mut`
+// parameter what the closure requires and ensures was not proved of captures by reference, by value, nor of a function's name.
 fn mark_all_ports(
     s: &[u8],
     index: &mut [u32],
