@@ -66,8 +66,8 @@ fn mark_ports(
     mark_keys(s, index, connectors, marks, outputs, next)
 }
 
-// Marks the connectors that are ports of a block. It, `mark_all_parameters` and `mark_types` are no one function over a closure: with a `&mut`
-// parameter what the closure requires and ensures was not proved of captures by reference, by value, nor of a function's name.
+// Marks the connectors that are ports of a block.
+// Not one function over a closure with `mark_all_parameters` and `mark_types`: tried, and what its callers owe of such a closure did not prove.
 fn mark_all_ports(
     s: &[u8],
     index: &mut [u32],
@@ -128,6 +128,7 @@ fn mark_class(
 }
 
 // Marks the classes that parameters of the block at a position name.
+// Not one function over a closure with `mark_keys`: two cursors move, and the closure would hand both back.
 fn mark_parameters(
     s: &[u8],
     index: &mut [u32],
