@@ -65,18 +65,18 @@ module _ (s : List ℕ) where
     kind-is = rw (et, en, el, er, ek)
 
     -- the revision agrees with the kind, or not
-    pub kind-agrees : {m : ℕ} → m ≡ number_at 8 s l → beq (not (eqb n 0)) (eqb t 1) ≡ true → beq (not (eqb m 0)) (eqb t 1) ≡ kind_holds (value_at (entry blocks) s at)
-    kind-agrees {m} em h = sym (kind-is ∙ rw (← em) (agrees (eqb t 1) (eqb n 0) (eqb m 0) h))
+    pub kind_agrees : {m : ℕ} → m ≡ number_at 8 s l → beq (not (eqb n 0)) (eqb t 1) ≡ true → beq (not (eqb m 0)) (eqb t 1) ≡ kind_holds (value_at (entry blocks) s at)
+    kind_agrees {m} em h = sym (kind-is ∙ rw (← em) (agrees (eqb t 1) (eqb n 0) (eqb m 0) h))
 
-    pub kind-differs : beq (not (eqb n 0)) (eqb t 1) ≡ false → beq (not (eqb n 0)) (eqb t 1) ≡ kind_holds (value_at (entry blocks) s at)
-    kind-differs h = h ∙ sym (kind-is ∙ differs (eqb t 1) (eqb n 0) (eqb (number_at 8 s l) 0) h)
+    pub kind_differs : beq (not (eqb n 0)) (eqb t 1) ≡ false → beq (not (eqb n 0)) (eqb t 1) ≡ kind_holds (value_at (entry blocks) s at)
+    kind_differs h = h ∙ sym (kind-is ∙ differs (eqb t 1) (eqb n 0) (eqb (number_at 8 s l) 0) h)
 
   pub key-at : (at : ℕ) → block_key_of (value_at (entry blocks) s at) ≡ value_at block_key s at
   unfolding block_key_of value_at
   key-at at = refl
 
-  pub key-well : (at : ℕ) → Well limit (entry blocks) s at → Well limit block_key s at
-  key-well at w = (well-then limit s block_key block_rest at w).0
+  pub key_well : (at : ℕ) → Well limit (entry blocks) s at → Well limit block_key s at
+  key_well at w = (well-then limit s block_key block_rest at w).0
 
   -- its parameters at list, its inputs at inp and its outputs at out
   module _ (at : ℕ) {list inp : ℕ} (el : list ≡ past block_head s (past block_key s at)) (ei : inp ≡ past params s list) where
@@ -117,12 +117,12 @@ module _ (s : List ℕ) where
         let w : Well limit block_key s at = (well-then limit s block_key (wire_dir then number 4) at wp).0 in
         rw (written limit s bytes block_key block wb, written limit s bytes block_key at w, es, eo, ek, eb, ee)
 
-    pub port-owner : b ≡ false → false ≡ holds
-    port-owner h = sym (port-is ∙ rw h)
+    pub port_owner : b ≡ false → false ≡ holds
+    port_owner h = sym (port-is ∙ rw h)
 
     module _ (h : b ≡ true) {t : ℕ} (et : t ≡ get_or s end 0) where
-      pub port-way : (t ≡ way → ⊥) → eqb t way ≡ holds
-      port-way i = sym (port-is ∙ rw (h, ← et, ne_eqb t way i))
+      pub port_way : (t ≡ way → ⊥) → eqb t way ≡ holds
+      port_way i = sym (port-is ∙ rw (h, ← et, ne_eqb t way i))
 
-      pub port-place : t ≡ way → {p n : ℕ} → p ≡ min (end + 1) (length s) → n ≡ number_at 4 s p → eqb n place ≡ holds
-      port-place i j k = sym (port-is ∙ rw (h, ← et, eq-eqb t way i, ← j, ← k))
+      pub port_place : t ≡ way → {p n : ℕ} → p ≡ min (end + 1) (length s) → n ≡ number_at 4 s p → eqb n place ≡ holds
+      port_place i j k = sym (port-is ∙ rw (h, ← et, eq-eqb t way i, ← j, ← k))

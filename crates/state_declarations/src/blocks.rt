@@ -23,6 +23,7 @@ use state_layout::validate_value_enum;
 use state_wire::part;
 
 // Question 12 of the block at a position.
+#[tactic(auto, using(crate::proofs::Parts::kind_agrees, crate::proofs::Parts::kind_differs))]
 fn kind_holds(s: &[u8], at: usize) -> bool
     ensures { result ≡ kind_holds (value_at (entry block_entries) s.now at) }
 {
@@ -51,6 +52,7 @@ fn parameters_hold(s: &[u8], index: &[u32], classes: Table, at: usize) -> bool
 }
 
 // Question 14 of the port at a position: is it the block's, of this direction and this index?
+#[tactic(auto, using(crate::proofs::Parts::port_owner, crate::proofs::Parts::port_way, crate::proofs::Parts::port_place))]
 fn port_holds(s: &[u8], block: usize, way: u8, place: usize, at: usize) -> bool
     requires are_bytes { AreBytes s.now }
     requires well { Well max_snapshot_bytes block_key s.now block }
@@ -82,6 +84,7 @@ fn ports_hold(s: &[u8], block: usize, way: u8, at: usize) -> bool
 }
 
 // Questions 12 to 14 of the block at a position.
+#[tactic(auto, using(crate::proofs::Parts::key_well))]
 fn block_answer(s: &[u8], index: &[u32], classes: Table, at: usize) -> Result<(), Question>
     requires are_bytes { AreBytes s.now }
     requires keyed { Keyed enums s.now index.now classes.from classes.to classes.to }

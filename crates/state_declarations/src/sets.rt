@@ -67,6 +67,7 @@ fn mark_ports(
 }
 
 // Marks the connectors that are ports of a block.
+// Not one function over a closure with `mark_all_parameters` and `mark_types`: tried, and what its callers owe of such a closure did not prove.
 fn mark_all_ports(
     s: &[u8],
     index: &mut [u32],
@@ -127,6 +128,7 @@ fn mark_class(
 }
 
 // Marks the classes that parameters of the block at a position name.
+// Not one function over a closure with `mark_keys`: two cursors move, and the closure would hand both back.
 fn mark_parameters(
     s: &[u8],
     index: &mut [u32],

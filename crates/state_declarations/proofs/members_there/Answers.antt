@@ -4,11 +4,7 @@ use Rattle.state_declarations.proofs.Walks.{words-next, words-end}
 use Rattle.questions.specs.Declarations.{has_member}
 use Rattle.format.specs.Values.{value_at}
 use Rattle.format.specs.Manifest.{entry, enums}
-use mathlib.Core.Path.{refl}
 use Rattle.state_declarations.proofs.members_there.Goals as goal
-
-pub loop-i-init : goal.loop-i-init
-loop-i-init c = refl
 
 pub returns-then-count_at-eq0 : goal.returns-then-count_at-eq0
 returns-then-count_at-eq0 c =

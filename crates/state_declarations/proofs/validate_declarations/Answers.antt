@@ -1,4 +1,5 @@
 use Rattle.state_declarations.proofs.Asking.{placed, words-there, words-below, blocks-well, classes-found, classes-roomy, connectors-keyed, members-are, blocks-are, ports-same, classes-same, placed-kept, says-11, says-block, says-15, says-16, says_none}
+use native.Mathlib.Omega.{arith}
 use Rattle.state_layout.proofs.Indexed.{leaves_all, leaves-then}
 use Rattle.std.proofs.lemmas.Result.{err_from_is_err_and}
 use Rattle.state_declarations.proofs.validate_declarations.Goals as goal
@@ -6,7 +7,7 @@ use Rattle.state_declarations.proofs.validate_declarations.Goals as goal
 pub members_there-requires : goal.members_there-requires
 members_there-requires c =
     let p = placed c.requires c.table_at-classes.ensures c.table_at-blocks.ensures c.table_at-connectors.ensures c.table_start-marks.ensures in
-    (words-there p).0
+    omega (arith, words-there p)
 
 pub returns-then-not-members_there : goal.returns-then-not-members_there
 returns-then-not-members_there c =

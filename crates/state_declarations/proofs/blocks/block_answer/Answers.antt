@@ -1,4 +1,4 @@
-use Rattle.state_declarations.proofs.Parts.{key-at, key-well, inputs-at, outputs-at, inputs-well, outputs-well}
+use Rattle.state_declarations.proofs.Parts.{key-at, inputs-at, outputs-at, inputs-well, outputs-well}
 use Rattle.questions.specs.Declarations.{block_answer}
 use Rattle.questions.specs.Sets.{◌unless◌, first}
 use Rattle.state_declarations.proofs.blocks.block_answer.Goals.{then-not-ports_hold-via-then-not-ports_hold, then-not-ports_hold-via-else-not-ports_hold+then-not-ports_hold-2}
@@ -12,13 +12,12 @@ pub returns-then-not-parameters_hold : goal.returns-then-not-parameters_hold
 unfolding block_answer first ◌unless◌
 returns-then-not-parameters_hold c = rw (← c.kind_holds.ensures, c.if-not-kind_holds.false, ← c.parameters_hold.ensures, c.if-not-parameters_hold.true)
 
-pub ports_hold-requires : goal.ports_hold-requires
-ports_hold-requires c =
-    record { are_bytes = c.requires.are_bytes; well = key-well _ _ c.requires.well; well_keys = inputs-well _ _ c.parameters_at.ensures c.parameters_end-inputs.ensures c.requires.well }
+pub ports_hold-requires-clause-well_keys : goal.ports_hold-requires-clause-well_keys
+ports_hold-requires-clause-well_keys c = inputs-well _ _ c.parameters_at.ensures c.parameters_end-inputs.ensures c.requires.well
 
-pub ports_hold-requires-else-not-ports_hold : goal.ports_hold-requires-else-not-ports_hold
-ports_hold-requires-else-not-ports_hold c =
-    record { are_bytes = c.requires.are_bytes; well = key-well _ _ c.requires.well; well_keys = outputs-well _ _ c.parameters_at.ensures c.parameters_end-inputs.ensures c.connector_keys_end-outputs.ensures c.requires.well }
+pub ports_hold-requires-else-not-ports_hold-clause-well_keys : goal.ports_hold-requires-else-not-ports_hold-clause-well_keys
+ports_hold-requires-else-not-ports_hold-clause-well_keys c =
+    outputs-well _ _ c.parameters_at.ensures c.parameters_end-inputs.ensures c.connector_keys_end-outputs.ensures c.requires.well
 
 pub returns-then-not-ports_hold : goal.returns-then-not-ports_hold
 unfolding block_answer first ◌unless◌

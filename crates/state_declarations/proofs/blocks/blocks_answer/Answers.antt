@@ -1,10 +1,6 @@
 use Rattle.state_declarations.proofs.Holds.{block-well, blocks-next, blocks-no, blocks_end}
 use Rattle.std.proofs.lemmas.Result.{err_from_is_err_and}
-use mathlib.Core.Path.{refl}
 use Rattle.state_declarations.proofs.blocks.blocks_answer.Goals as goal
-
-pub loop-i-init : goal.loop-i-init
-loop-i-init c = record { well = c.requires.all; is = refl }
 
 pub block_answer-requires : goal.block_answer-requires
 block_answer-requires c =

@@ -3,7 +3,6 @@ use Rattle.state_declarations.proofs.Meeting.{marking-start, words-marked, words
 use Rattle.questions.specs.Declarations.{param_classes}
 use Rattle.format.specs.Values.{value_at}
 use Rattle.format.specs.Manifest.{entry, blocks}
-use native.Mathlib.Omega.{arith}
 use Rattle.state_declarations.proofs.sets.mark_all_parameters.Goals as goal
 
 pub loop-i-init : goal.loop-i-init

@@ -4,7 +4,6 @@ use Rattle.state_declarations.proofs.Naming.{types_of}
 use Rattle.state_declarations.proofs.Parts.{type-class}
 use Rattle.format.specs.Values.{value_at}
 use Rattle.format.specs.Manifest.{entry, connectors}
-use native.Mathlib.Omega.{arith}
 use Rattle.state_declarations.proofs.sets.mark_types.Goals as goal
 
 pub loop-i-init : goal.loop-i-init
