@@ -8,8 +8,8 @@ use mathlib.Core.List.{List, ◌++◌}
 use lib.ListN.{length, get_or, take, drop, replicate}
 use lib.Dec.{leb}
 use borrow.Author.Tests.{le-leb, lt-leb}
-use Rattle.state.specs.Outcome.{got}
-use Rattle.state.specs.declared.Units.TheVariants as units
+use Rattle.std.specs.Prelude.{Ok}
+use Rattle.state.specs.Outcome.{got, refuses}
 use Rattle.format.specs.Manifest.{counted, state_slots}
 use Rattle.format.specs.Fields.{slots_of}
 use Rattle.format.specs.Places.{number_at}
@@ -40,13 +40,13 @@ module _ {s index : List ℕ} (a : Accepted s index) {p : ℕ} (slots : p ≡ ge
     unfolding units_of
     units-are = rw (words_are, connectors-counted a, count, connectors)
 
-    pub units-above : (18446744073709551615 - c) / 4 < w → {new : List ℕ} → new ≡ take 0 index ++ (replicate (length index - 0) 0 ++ drop (length index) index)
-        → (units.Refused 39 0 ≡ units_answer 0 (got (manifest_of s) 0)) × (new ≡ kept s index)
+    pub units-above : 2 ^ 64 ≤ 4 * w + c → {new : List ℕ} → new ≡ take 0 index ++ (replicate (length index - 0) 0 ++ drop (length index) index)
+        → (refuses 39 0 ≡ units_answer 0 (got (manifest_of s) 0)) × (new ≡ kept s index)
     unfolding units_answer
     units-above h e =
         rw (units-are, lt-leb (4 * w + c) (2 ^ 64 - 1) (omega arith))
         (refl, cleared-behind index 0 e ∙ ap (λ (n : ℕ). replicate n 0) (sub-zero (length index)))
 
-    pub units-fit : c < 2 ^ 64 → w ≤ (18446744073709551615 - c) / 4 → (units.Of w (4 * w + c) ≡ units_answer 0 (got (manifest_of s) 0)) × (index ≡ kept s index)
+    pub units-fit : {u : ℕ} → u ≡ 4 * w + c → u < 2 ^ 64 → (Ok (record { words = w; units = u }) ≡ units_answer 0 (got (manifest_of s) 0)) × (index ≡ kept s index)
     unfolding units_answer
-    units-fit f h = rw (units-are, words_are, le-leb (4 * w + c) (2 ^ 64 - 1) (omega arith)) (refl, refl)
+    units-fit e h = rw (units-are, words_are, e, le-leb (4 * w + c) (2 ^ 64 - 1) (omega arith)) (refl, refl)

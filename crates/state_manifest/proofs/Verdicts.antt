@@ -9,8 +9,7 @@ use lib.ListN.{length, get_or}
 use types.Run.{OneOf}
 use Rattle.text.proofs.Blocks.{both}
 use Rattle.state.specs.Bytes.{span}
-use Rattle.state.specs.declared.Verdict.{Verdict}
-use Rattle.state.specs.declared.Verdict.TheVariants.{Compatible, Differs}
+use Rattle.std.specs.Prelude.{Ok, Err}
 use Rattle.format.specs.Lists.{same}
 use Rattle.format.specs.Least.{honest}
 use Rattle.format.specs.Manifest.{counted, sequence, blocks, input_definitions, manifest}
@@ -21,7 +20,7 @@ use Rattle.format.proofs.Complete.{same_bytes}
 use Rattle.format.proofs.Canonical.{manifest-honest}
 use Rattle.format.proofs.Places.{end-got}
 use Rattle.format.proofs.Values.{well-then, written}
-use Rattle.verdict.specs.Verdict.{◌or_else◌, block_verdict, Comparison, whole, listwise, entrywise, comparisons, formats, over, verdict}
+use Rattle.verdict.specs.Verdict.{Agreement, compatible, differs, ◌or_else◌, block_verdict, Comparison, whole, listwise, entrywise, comparisons, formats, over, verdict}
 use Rattle.verdict.proofs.Faithful.{Faithful, AllFaithful, comparisons-faithful}
 use Rattle.state_layout.specs.Tables.{manifest_of}
 use Rattle.state_layout.proofs.Tables.{limit}
@@ -71,13 +70,13 @@ module _ (u : List ℕ) where
 
 -- ---- what the sections from the i-th on come to
 module _ (s t : List ℕ) where
-  abbrev left_from : List Comparison → (i a b : ℕ) → Verdict
+  abbrev left_from : List Comparison → (i a b : ℕ) → Agreement
   left_from cs zero a b = over cs (value_at (sequence (formats cs)) s a) (value_at (sequence (formats cs)) t b)
-  left_from [] (suc i) a b = Compatible
+  left_from [] (suc i) a b = compatible
   left_from (c ∷ cs) (suc i) a b = left_from cs i (past c.format s a) (past c.format t b)
 
   -- what the i-th comes to
-  abbrev at_place : (c : Comparison) (a b : ℕ) → Verdict
+  abbrev at_place : (c : Comparison) (a b : ℕ) → Agreement
   at_place c a b = c.compare (value_at c.format s a) (value_at c.format t b)
 
   -- that one, or else those behind it
@@ -89,7 +88,7 @@ module _ (s t : List ℕ) where
   left-next (c ∷ cs) (suc i) a b h = left-next cs i (past c.format s a) (past c.format t b) (omega arith)
 
   -- behind the last there is none
-  left-none : (cs : List Comparison) (i a b : ℕ) → i ≡ length cs → left_from cs i a b ≡ Compatible
+  left-none : (cs : List Comparison) (i a b : ℕ) → i ≡ length cs → left_from cs i a b ≡ compatible
   unfolding over
   left-none [] zero a b h = refl
   left-none [] (suc i) a b h = refl
@@ -140,7 +139,7 @@ module _ (s t : List ℕ) (a b : ℕ) where
   unfolding comparison
   blocks-both e w = subst (λ k. Both (comparison k).format s t a b) e w
 
-  pub blocks-found : {k : ℕ} → OneOf (3 ∷ []) k → {r : Verdict} → r ≡ at_place s t (listwise 3 blocks block_verdict) a b → r ≡ at_place s t (comparison k) a b
+  pub blocks-found : {k : ℕ} → OneOf (3 ∷ []) k → {r : Agreement} → r ≡ at_place s t (listwise 3 blocks block_verdict) a b → r ≡ at_place s t (comparison k) a b
   unfolding comparison
   blocks-found e {r} h = subst (λ k. r ≡ at_place s t (comparison k) a b) (sym e) h
 
@@ -148,15 +147,15 @@ module _ (s t : List ℕ) (a b : ℕ) where
   pub named-both : {k : ℕ} → OneOf (2 ∷ 4 ∷ 12 ∷ []) k → Both (comparison k).format s t a b → Both (counted (named k)) s t a b
   named-both {k} o w = subst (λ c. Both c.format s t a b) (named-is k o) w
 
-  pub named-found : {k : ℕ} → OneOf (2 ∷ 4 ∷ 12 ∷ []) k → {r : Verdict} → r ≡ at_place s t (entrywise k (named k)) a b → r ≡ at_place s t (comparison k) a b
+  pub named-found : {k : ℕ} → OneOf (2 ∷ 4 ∷ 12 ∷ []) k → {r : Agreement} → r ≡ at_place s t (entrywise k (named k)) a b → r ≡ at_place s t (comparison k) a b
   named-found {k} o {r} h = subst (λ c. r ≡ at_place s t c a b) (sym (named-is k o)) h
 
   -- a whole section whose bytes differ
   pub whole-differs : (k : ℕ) → (1 ≤ k) × (k ≤ 12) → (Walked k → ⊥) → Both (comparison k).format s t a b
-      → same (span s a (past (comparison k).format s a)) (span t b (past (comparison k).format t b)) ≡ false → Differs k 0 0 0 ≡ at_place s t (comparison k) a b
+      → same (span s a (past (comparison k).format s a)) (span t b (past (comparison k).format t b)) ≡ false → differs k 0 0 0 ≡ at_place s t (comparison k) a b
   whole-differs k h n w d =
-      subst (λ c. Differs k 0 0 0 ≡ at_place s t c a b) (sym (whole_is k h n))
-      (field_is (comparison k).format (Differs k 0 0 0) w refl refl (rw d))
+      subst (λ c. differs k 0 0 0 ≡ at_place s t c a b) (sym (whole_is k h n))
+      (field_is (comparison k).format (differs k 0 0 0) w refl refl (rw d))
 
 -- ---- the walk over the sections
 -- those before section k are alike
@@ -170,7 +169,7 @@ pub left-start : (s t : List ℕ) → Left s t 1
 unfolding verdict manifest
 left-start s t = record { from = omega arith; to = omega arith; is = refl }
 
-pub left_end : {s t : List ℕ} {k : ℕ} → Left s t k → 12 < k → Compatible ≡ verdict (manifest_of s) (manifest_of t)
+pub left_end : {s t : List ℕ} {k : ℕ} → Left s t k → 12 < k → compatible ≡ verdict (manifest_of s) (manifest_of t)
 left_end {s} {t} {k} l h = sym (left-none s t comparisons (k - 1) 0 0 (omega (arith, l.to))) ∙ l.is
 
 -- the starts of a manifest's sections are where they stand
@@ -226,12 +225,14 @@ module _ {s t starts starts' : List ℕ} (p : Stands s starts) (q : Stands t sta
         pub section-apart : same (span s a (past (comparison k).format s a)) (span t b (past (comparison k).format t b)) ≡ false
         section-apart = sym bytes_same ∙ differ
 
-        pub section-found : {r : Verdict} → r ≡ at_place s t (comparison k) a b → r ≡ verdict (manifest_of s) (manifest_of t)
-        section-found g =
-            or-found _ g (λ o.
-            let z = faithful.alike _ _ (sym g ∙ o) in
-            same_differs _ _ section-apart (sym (written limit s p.bytes (comparison k).format a section-both.well) ∙ z ∙ written limit t q.bytes (comparison k).format b section-both.well'))
-            ∙ comes-to
+        pub section-found : {r : Agreement} → r ≡ at_place s t (comparison k) a b → r ≡ verdict (manifest_of s) (manifest_of t)
+        section-found {r} g = go r g ∙ comes-to
+          where
+            go : (r : Agreement) → r ≡ at_place s t (comparison k) a b → r ≡ (at_place s t (comparison k) a b or_else left_from s t comparisons (suc (k - 1)) 0 0)
+            go (Ok u) g =
+                let z = faithful.alike _ _ (sym g) in
+                absurd (same_differs _ _ section-apart (sym (written limit s p.bytes (comparison k).format a section-both.well) ∙ z ∙ written limit t q.bytes (comparison k).format b section-both.well'))
+            go (Err d) g = or-found _ g refl
 
       -- they are the same
       pub section-same : x ≡ true → Left s t (k + 1)

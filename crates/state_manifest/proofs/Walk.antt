@@ -2,7 +2,7 @@
 use Prim.Native.Nat.{ℕ, zero, suc, ◌+◌, ◌-◌, ◌^◌, ◌≤◌, ◌<◌, min, max}
 use native.Mathlib.Omega.{arith}
 use native.Mathlib.Nat.{max-zero, zero-max}
-use mathlib.Core.Path.{◌≡◌, sym, ◌∙◌}
+use mathlib.Core.Path.{◌≡◌, sym, subst, ◌∙◌}
 use mathlib.Core.Bool.{true}
 use mathlib.Core.List.{List}
 use lib.ListN.{length}
@@ -58,3 +58,7 @@ module _ (s : List ℕ) (at : ℕ) where
           fits = rw (d, j, second, first) (both (end_fits (value_at (entry state_slots) s p)) _ w.fits).1;
           is = rw (d, j, i, ← slot-end, second, first) (max_assoc most _ _ ∙ w.is);
         }
+
+-- the same number of slots, written otherwise
+pub walk-left : {s : List ℕ} {at left other p most : ℕ} → Walking s at left p most → left ≡ other → Walking s at other p most
+walk-left {s = s} {at = at} {p = p} {most = most} w e = subst (λ (n : ℕ). Walking s at n p most) e w

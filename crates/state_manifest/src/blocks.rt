@@ -1,212 +1,133 @@
 // Section 3 of two accepted manifests, block by block and field by field.
-ghost use Rattle.std.specs.Prelude.{◌≡◌, cond, ◌≤◌, eqb};
-ghost use Rattle.state.specs.Bytes.{span};
-ghost use Rattle.state.specs.declared.Verdict.TheVariants.{Compatible};
-ghost use Rattle.format.specs.Lists.{same};
-ghost use Rattle.format.specs.Format.{text, ◌then◌};
-ghost use Rattle.format.specs.Manifest.{value, connector_keys, entry, counted, blocks};
+ghost use Rattle.std.specs.Prelude.{◌≡◌, ◌≤◌};
+ghost use Rattle.format.specs.Keys.{block_key};
+ghost use Rattle.format.specs.Format.{number, tag, text, ◌then◌};
+ghost use Rattle.format.specs.Manifest.{value, connector_keys, block_head, entry, counted, blocks};
+ghost use Rattle.format.specs.Places.{past};
 ghost use Rattle.format.specs.Values.{value_at};
-ghost use Rattle.verdict.specs.Verdict.{in_blocks, head_verdict, param_verdict, ports_verdict, listwise, block_verdict};
-ghost use Rattle.state_manifest.specs.Comparing.{Both, ports_at};
+ghost use Rattle.verdict.specs.Verdict.{compatible, head_verdict, param_verdict, ports_verdict, listwise, block_verdict};
+ghost use Rattle.state_manifest.specs.Comparing.{Both, Moved, ports, ports_at};
 
-use super::compare::{both_left, compare_counts, compare_part};
-use state::{Part, Section, Verdict};
-use state_index::keys::{block_key_end, connector_key_end, count_at};
+use super::compare::{Sides, compare_counts, compare_lists, compare_part, enter};
+use state::{Difference, Part, Section, Verdict};
+use state_index::keys::{block_key_end, connector_key_end};
 use state_index::{ahead, text_end};
-use state_layout::ends::{connector_keys_end, parameters_at, value_end};
+use state_layout::ends::value_end;
 
-// What two parts of block i come to, at inner place j.
-fn compare_field(
-    s: &[u8],
-    a: usize,
-    e: usize,
-    t: &[u8],
-    b: usize,
-    f: usize,
-    part: u8,
-    i: usize,
-    j: usize,
-) -> Verdict
-    ensures { result ≡ cond (same (span s.now a e) (span t.now b f)) Compatible (in_blocks part i j) }
+// A difference of block i, at inner place j.
+fn in_block(part: u8, i: usize, j: usize) -> Difference
+    ensures { result ≡ record { section = 3; part = part; entry = i; inner = j } }
 {
+    Difference {
+        section: Section::BLOCKS,
+        part,
+        entry: i,
+        inner: j,
+    }
+}
+
+// Where a block's kind ends.
+#[tactic(auto, unfolding(format::specs::Places::past))]
+fn kind_end(s: &[u8], at: usize) -> usize
+    ensures { result ≡ past (tag 2) s.now at }
+{
+    ahead(s, at, 1)
+}
+
+// Where a number of W bytes ends.
+#[tactic(auto, unfolding(format::specs::Places::past))]
+fn number_end<const W: usize>(s: &[u8], at: usize) -> usize
+    ensures { result ≡ past (number W) s.now at }
+{
+    ahead(s, at, W)
+}
+
+// The key, class, kind, revision and state length of block i; the places move behind them.
+fn compare_head(s: &[u8], t: &[u8], at: &mut Sides, i: usize) -> Verdict
+    requires { Both (entry blocks) s.now t.now at.old.snapshot at.old.target }
+    ensures verdict { result ≡ head_verdict i (value_at (entry blocks) s.now at.old.snapshot) (value_at (entry blocks) t.now at.old.target) }
+    ensures moved { result ≡ compatible → Moved (block_key then block_head) s.now t.now at.old at.new }
+{
+    compare_part(s, t, at, block_key_end, in_block(Part::KEY, i, 0))?;
+    compare_part(s, t, at, text_end, in_block(Part::CLASS, i, 0))?;
+    compare_part(s, t, at, kind_end, in_block(Part::KIND, i, 0))?;
+    compare_part(s, t, at, number_end::<4>, in_block(Part::REVISION, i, 0))?;
     compare_part(
         s,
-        a,
-        e,
         t,
-        b,
-        f,
-        Verdict::Differs(Section::BLOCKS, part, i, j),
+        at,
+        number_end::<8>,
+        in_block(Part::STATE_LENGTH, i, 0),
     )
 }
 
-// What lists of block i, or the blocks, come to of which so many entries are left after one has ended.
-fn compare_count(left: usize, right: usize, part: u8, i: usize, j: usize) -> Verdict
-    ensures { result ≡ cond (eqb left right) Compatible (in_blocks part i j) }
+// The name and the value of parameter j of block i; the places move behind them.
+fn compare_parameter(s: &[u8], t: &[u8], at: &mut Sides, i: usize, j: usize) -> Verdict
+    requires { Both (text then value) s.now t.now at.old.snapshot at.old.target }
+    ensures verdict { result ≡ param_verdict i j (value_at (text then value) s.now at.old.snapshot) (value_at (text then value) t.now at.old.target) }
+    ensures moved { result ≡ compatible → Moved (text then value) s.now t.now at.old at.new }
 {
-    compare_counts(left, right, Verdict::Differs(Section::BLOCKS, part, i, j))
+    compare_part(s, t, at, text_end, in_block(Part::PARAMETER_NAME, i, j))?;
+    compare_part(s, t, at, value_end, in_block(Part::PARAMETER_VALUE, i, j))
 }
 
-// Keys, classes, kinds, revisions and state lengths of block i, at p and q.
-fn compare_heads(s: &[u8], t: &[u8], p: usize, q: usize, i: usize) -> Verdict
-    requires { Both (entry blocks) s.now t.now p q }
-    ensures { result ≡ head_verdict i (value_at (entry blocks) s.now p) (value_at (entry blocks) t.now q) }
+// The ports of block i on one side: inputs are part 9, outputs 11, their count is the next part. The places move behind them.
+#[tactic(auto, using(crate::proofs::Fields::ports_are), unfolding(format::specs::Manifest::connector_keys, format::specs::Places::past))]
+fn compare_port_bindings(s: &[u8], t: &[u8], at: &mut Sides, side: u8, i: usize) -> Verdict
+    requires both { Both (counted ports) s.now t.now at.old.snapshot at.old.target }
+    requires part_bound { side ≤ 11 }
+    ensures verdict { result ≡ ports_verdict side i (value_at connector_keys s.now at.old.snapshot) (value_at connector_keys t.now at.old.target) }
+    ensures moved { result ≡ compatible → Moved connector_keys s.now t.now at.old at.new }
 {
-    let a = block_key_end(s, p);
-    let b = block_key_end(t, q);
-    let key = compare_field(s, p, a, t, q, b, Part::KEY, i, 0);
-    let Verdict::Compatible = key else {
-        return key;
-    };
-    let c = text_end(s, a);
-    let d = text_end(t, b);
-    let class = compare_field(s, a, c, t, b, d, Part::CLASS, i, 0);
-    let Verdict::Compatible = class else {
-        return class;
-    };
-    let e = ahead(s, c, 1);
-    let f = ahead(t, d, 1);
-    let kind = compare_field(s, c, e, t, d, f, Part::KIND, i, 0);
-    let Verdict::Compatible = kind else {
-        return kind;
-    };
-    let g = ahead(s, e, 4);
-    let h = ahead(t, f, 4);
-    let revision = compare_field(s, e, g, t, f, h, Part::REVISION, i, 0);
-    let Verdict::Compatible = revision else {
-        return revision;
-    };
-    compare_field(
-        s,
-        g,
-        ahead(s, g, 8),
-        t,
-        h,
-        ahead(t, h, 8),
-        Part::STATE_LENGTH,
-        i,
-        0,
-    )
-}
-
-// Names, then values of parameter j of block i, at p and q.
-fn compare_parameter(s: &[u8], t: &[u8], p: usize, q: usize, i: usize, j: usize) -> Verdict
-    requires { Both (text then value) s.now t.now p q }
-    ensures { result ≡ param_verdict i j (value_at (text then value) s.now p) (value_at (text then value) t.now q) }
-{
-    let a = text_end(s, p);
-    let b = text_end(t, q);
-    let name = compare_field(s, p, a, t, q, b, Part::PARAMETER_NAME, i, j);
-    let Verdict::Compatible = name else {
-        return name;
-    };
-    compare_field(
-        s,
-        a,
-        value_end(s, a),
-        t,
-        b,
-        value_end(t, b),
-        Part::PARAMETER_VALUE,
-        i,
-        j,
-    )
-}
-
-// The ports of block i whose counts stand at a and b: inputs are part 9, outputs 11, their counts the next part.
-fn compare_port_bindings(s: &[u8], t: &[u8], part: u8, a: usize, b: usize, i: usize) -> Verdict
-    requires both { Both connector_keys s.now t.now a b }
-    requires part_bound { part ≤ 11 }
-    ensures { result ≡ ports_verdict part i (value_at connector_keys s.now a) (value_at connector_keys t.now b) }
-{
-    let mut left = count_at(s, a);
-    let mut right = count_at(t, b);
-    let mut p = ahead(s, a, 4);
-    let mut q = ahead(t, b, 4);
-    let mut j = 0;
-    while both_left(left, right) {
-        let e = connector_key_end(s, p);
-        let f = connector_key_end(t, q);
-        let port = compare_field(s, p, e, t, q, f, part, i, j);
-        let Verdict::Compatible = port else {
-            return port;
-        };
-        p = e;
-        q = f;
-        left -= 1;
-        right -= 1;
-        j += 1;
-    }
-    compare_count(left, right, part + 1, i, j)
-}
-
-// The inputs of block i, which stand at a and b, then its outputs.
-fn compare_ports(s: &[u8], t: &[u8], a: usize, b: usize, i: usize) -> Verdict
-    requires { Both (connector_keys then connector_keys) s.now t.now a b }
-    ensures { result ≡ ports_at i s.now t.now a b }
-{
-    let inputs = compare_port_bindings(s, t, Part::INPUT, a, b, i);
-    let Verdict::Compatible = inputs else {
-        return inputs;
-    };
-    compare_port_bindings(
+    let count = side + 1;
+    compare_lists(
         s,
         t,
-        Part::OUTPUT,
-        connector_keys_end(s, a),
-        connector_keys_end(t, b),
-        i,
+        at,
+        connector_key_end,
+        |j| in_block(side, i, j),
+        |j| in_block(count, i, j),
     )
 }
 
-// Section 3, whose counts stand at a and b. Blocks and parameters are left together at the first difference.
-pub(crate) fn compare_blocks(s: &[u8], t: &[u8], a: usize, b: usize) -> Verdict
-    requires { Both (counted blocks) s.now t.now a b }
-    ensures { result ≡ (listwise 3 blocks block_verdict).compare (value_at (counted blocks) s.now a) (value_at (counted blocks) t.now b) }
+// The inputs of block i, then its outputs. The places move behind them.
+fn compare_ports(s: &[u8], t: &[u8], at: &mut Sides, i: usize) -> Verdict
+    requires { Both (connector_keys then connector_keys) s.now t.now at.old.snapshot at.old.target }
+    ensures verdict { result ≡ ports_at i s.now t.now at.old.snapshot at.old.target }
+    ensures moved { result ≡ compatible → Moved (connector_keys then connector_keys) s.now t.now at.old at.new }
 {
-    let mut left = count_at(s, a);
-    let mut right = count_at(t, b);
-    let mut p = ahead(s, a, 4);
-    let mut q = ahead(t, b, 4);
+    compare_port_bindings(s, t, at, Part::INPUT, i)?;
+    compare_port_bindings(s, t, at, Part::OUTPUT, i)
+}
+
+// Section 3, whose counts stand at two places. Blocks and parameters are left together at the first difference.
+pub(crate) fn compare_blocks(s: &[u8], t: &[u8], at: &mut Sides) -> Verdict
+    requires { Both (counted blocks) s.now t.now at.old.snapshot at.old.target }
+    ensures { result ≡ (listwise 3 blocks block_verdict).compare (value_at (counted blocks) s.now at.old.snapshot) (value_at (counted blocks) t.now at.old.target) }
+{
+    let counts = enter(s, t, at);
     let mut i = 0;
     'blocks: loop {
-        if !both_left(left, right) {
-            break 'blocks compare_count(left, right, Part::ENTRY_COUNT, i, 0);
+        if i == counts.shorter() {
+            break 'blocks compare_counts(counts, in_block(Part::ENTRY_COUNT, i, 0));
         }
-        let head = compare_heads(s, t, p, q, i);
-        let Verdict::Compatible = head else {
-            break 'blocks head;
-        };
-        let list = parameters_at(s, p);
-        let other = parameters_at(t, q);
-        let mut m = count_at(s, list);
-        let mut n = count_at(t, other);
-        let mut x = ahead(s, list, 4);
-        let mut y = ahead(t, other, 4);
-        let mut j = 0;
-        while both_left(m, n) {
-            let parameter = compare_parameter(s, t, x, y, i, j);
-            let Verdict::Compatible = parameter else {
-                break 'blocks parameter;
-            };
-            x = value_end(s, text_end(s, x));
-            y = value_end(t, text_end(t, y));
-            m -= 1;
-            n -= 1;
-            j += 1;
+        if let Err(difference) = compare_head(s, t, at, i) {
+            break 'blocks Err(difference);
         }
-        let count = compare_count(m, n, Part::PARAMETER_COUNT, i, j);
-        let Verdict::Compatible = count else {
-            break 'blocks count;
-        };
-        let ports = compare_ports(s, t, x, y, i);
-        let Verdict::Compatible = ports else {
-            break 'blocks ports;
-        };
-        p = connector_keys_end(s, connector_keys_end(s, x));
-        q = connector_keys_end(t, connector_keys_end(t, y));
-        left -= 1;
-        right -= 1;
+        let parameters = enter(s, t, at);
+        for j in 0..parameters.shorter() {
+            if let Err(difference) = compare_parameter(s, t, at, i, j) {
+                break 'blocks Err(difference);
+            }
+        }
+        let place = parameters.shorter();
+        let count = in_block(Part::PARAMETER_COUNT, i, place);
+        if let Err(difference) = compare_counts(parameters, count) {
+            break 'blocks Err(difference);
+        }
+        if let Err(difference) = compare_ports(s, t, at, i) {
+            break 'blocks Err(difference);
+        }
         i += 1;
     }
 }

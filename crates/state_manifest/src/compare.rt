@@ -1,125 +1,161 @@
 // Two accepted manifests side by side: where they first differ.
-ghost use Rattle.std.specs.Prelude.{◌≡◌, false, ◌&&◌, cond, ◌-◌, ◌≤◌, length, get_or, eqb, ltb};
+ghost use Rattle.std.specs.Prelude.{◌≡◌, false, cond, ◌+◌, ◌-◌, ◌≤◌, min, length, get_or, eqb};
 ghost use Rattle.state.specs.Bytes.{span};
-ghost use Rattle.state.specs.declared.Verdict.TheVariants.{Compatible};
 ghost use Rattle.format.specs.Lists.{same};
 ghost use Rattle.format.specs.Manifest.{entry, counted};
-ghost use Rattle.format.specs.Places.{past};
+ghost use Rattle.format.specs.Places.{number_at, past};
 ghost use Rattle.format.specs.Values.{value_at};
-ghost use Rattle.verdict.specs.Verdict.{entrywise, verdict};
+ghost use Rattle.verdict.specs.Verdict.{compatible, entrywise, verdict};
 ghost use Rattle.state_layout.specs.Tables.{manifest_of};
-ghost use Rattle.state_manifest.specs.Comparing.{Both, named, comparison, Stands};
+ghost use Rattle.state_manifest.specs.Comparing.{Both, Lists, Tells, lists_verdict, Moved, named, comparison, Stands};
 
 use super::blocks::compare_blocks;
-use state::{Part, Section, Starts, Verdict};
+use state::{Difference, Part, Section, Starts, Verdict};
 use state_index::ahead;
 use state_index::keys::count_at;
 use state_key_order::same_bytes;
 use state_layout::ends::{class_end, connector_end, definition_end};
 use state_wire::part;
 
-// Do both lists have entries left?
-pub(crate) fn both_left(left: usize, right: usize) -> bool
-    ensures { result ≡ (ltb 0 left && ltb 0 right) }
-{
-    if left == 0 {
-        return false;
-    }
-    0 < right
+// A place, or a count, of the snapshot's manifest and one of the target's.
+#[derive(Clone, Copy)]
+pub(crate) struct Sides {
+    pub snapshot: usize,
+    pub target: usize,
 }
 
-// What two parts come to: nothing, or this difference.
-pub(crate) fn compare_part(
+impl Sides {
+    pub(crate) fn shorter(self) -> usize
+        ensures { result ≡ min self.snapshot self.target }
+    {
+        self.snapshot.min(self.target)
+    }
+}
+
+// What two parts come to that reach from two places to where `end` says: nothing, or this difference. The places move there.
+pub(crate) fn compare_part<E: Fn(&[u8], usize) -> usize>(
     s: &[u8],
-    a: usize,
-    e: usize,
     t: &[u8],
-    b: usize,
-    f: usize,
-    difference: Verdict,
+    at: &mut Sides,
+    end: E,
+    difference: Difference,
 ) -> Verdict
-    ensures { result ≡ cond (same (span s.now a e) (span t.now b f)) Compatible difference }
+    requires { E.IsAlwaysCallable end }
+    ensures snapshot { E.post end s.entry at.old.snapshot at.new.snapshot }
+    ensures target { E.post end t.entry at.old.target at.new.target }
+    ensures verdict { result ≡ cond (same (span s.now at.old.snapshot at.new.snapshot) (span t.now at.old.target at.new.target)) compatible (Err difference) }
 {
-    if same_bytes(part(s, a, e), part(t, b, f)) {
-        return Verdict::Compatible;
+    let from = *at;
+    at.snapshot = end(s, from.snapshot);
+    at.target = end(t, from.target);
+    let left = part(s, from.snapshot, at.snapshot);
+    let right = part(t, from.target, at.target);
+    if same_bytes(left, right) {
+        Ok(())
+    } else {
+        Err(difference)
     }
-    difference
 }
 
-// What two lists come to of which so many entries are left after one of them has ended.
-pub(crate) fn compare_counts(left: usize, right: usize, difference: Verdict) -> Verdict
-    ensures { result ≡ cond (eqb left right) Compatible difference }
+// The counts of two lists; the places move to their first entries.
+pub(crate) fn enter(s: &[u8], t: &[u8], at: &mut Sides) -> Sides
+    ensures counts { (result.snapshot ≡ number_at 4 s.now at.old.snapshot) × (result.target ≡ number_at 4 t.now at.old.target) }
+    ensures places { (at.new.snapshot ≡ min (at.old.snapshot + 4) (length s.now)) × (at.new.target ≡ min (at.old.target + 4) (length t.now)) }
 {
-    if left == right {
-        return Verdict::Compatible;
+    let counts = Sides {
+        snapshot: count_at(s, at.snapshot),
+        target: count_at(t, at.target),
+    };
+    at.snapshot = ahead(s, at.snapshot, 4);
+    at.target = ahead(t, at.target, 4);
+    counts
+}
+
+// What two counts come to.
+pub(crate) fn compare_counts(counts: Sides, difference: Difference) -> Verdict
+    ensures { result ≡ cond (eqb counts.snapshot counts.target) compatible (Err difference) }
+{
+    if counts.snapshot == counts.target {
+        Ok(())
+    } else {
+        Err(difference)
     }
-    difference
+}
+
+// Two counted lists, entry by entry and then their counts: `end` says where an entry ends, the others which difference it is, or the counts,
+// at a place of the list. The places move behind the lists.
+pub(crate) fn compare_lists<
+    E: Fn(&[u8], usize) -> usize,
+    D: Fn(usize) -> Difference,
+    C: Fn(usize) -> Difference,
+>(s: &[u8], t: &[u8], at: &mut Sides, end: E, at_entry: D, at_count: C) -> Verdict
+    ghost lists: { Lists }
+    requires end_called { E.IsAlwaysCallable end }
+    requires entry_called { D.IsAlwaysCallable at_entry }
+    requires count_called { C.IsAlwaysCallable at_count }
+    requires both { Both (counted lists.list) s.now t.now at.old.snapshot at.old.target }
+    requires tells { Tells lists s.now t.now (E.post end s) (E.post end t) (D.post at_entry) (C.post at_count) }
+    ensures verdict { result ≡ lists_verdict lists (value_at (counted lists.list) s.now at.old.snapshot) (value_at (counted lists.list) t.now at.old.target) }
+    ensures moved { result ≡ compatible → Moved (counted lists.list) s.now t.now at.old at.new }
+{
+    let counts = enter(s, t, at);
+    for i in 0..counts.shorter() {
+        compare_part(s, t, at, &end, at_entry(i))?;
+    }
+    compare_counts(counts, at_count(counts.shorter()))
 }
 
 // Where an entry of section 2 or 4 ends, or of section 12, for which any other number stands.
 fn named_end(s: &[u8], section: u8, at: usize) -> usize
     ensures { result ≡ past (entry (named section)) s.now at }
 {
-    if section == Section::ENUMS {
-        return class_end(s, at);
+    match section {
+        Section::ENUMS => class_end(s, at),
+        Section::CONNECTORS => connector_end(s, at),
+        _ => definition_end(s, at),
     }
-    if section == Section::CONNECTORS {
-        return connector_end(s, at);
-    }
-    definition_end(s, at)
 }
 
-// Sections 2, 4 and 12, whose counts stand at a and b, entry by entry.
-fn compare_named(s: &[u8], t: &[u8], section: u8, a: usize, b: usize) -> Verdict
-    requires { Both (counted (named section)) s.now t.now a b }
-    ensures { result ≡ (entrywise section (named section)).compare (value_at (counted (named section)) s.now a) (value_at (counted (named section)) t.now b) }
+// A difference of a section, in an entry or in the count of them.
+fn in_section(section: u8, part: u8, entry: usize) -> Difference
+    ensures { result ≡ record { section = section; part = part; entry = entry; inner = 0 } }
 {
-    let mut left = count_at(s, a);
-    let mut right = count_at(t, b);
-    let mut p = ahead(s, a, 4);
-    let mut q = ahead(t, b, 4);
-    let mut i = 0;
-    while both_left(left, right) {
-        let e = named_end(s, section, p);
-        let f = named_end(t, section, q);
-        let entry = compare_part(
-            s,
-            p,
-            e,
-            t,
-            q,
-            f,
-            Verdict::Differs(section, Part::WHOLE, i, 0),
-        );
-        let Verdict::Compatible = entry else {
-            return entry;
-        };
-        p = e;
-        q = f;
-        left -= 1;
-        right -= 1;
-        i += 1;
+    Difference {
+        section,
+        part,
+        entry,
+        inner: 0,
     }
-    compare_counts(
-        left,
-        right,
-        Verdict::Differs(section, Part::ENTRY_COUNT, i, 0),
+}
+
+// Sections 2, 4 and 12, whose counts stand at two places, entry by entry.
+fn compare_named(s: &[u8], t: &[u8], section: u8, at: &mut Sides) -> Verdict
+    requires { Both (counted (named section)) s.now t.now at.old.snapshot at.old.target }
+    ensures { result ≡ (entrywise section (named section)).compare (value_at (counted (named section)) s.now at.old.snapshot) (value_at (counted (named section)) t.now at.old.target) }
+{
+    compare_lists(
+        s,
+        t,
+        at,
+        |u, p| named_end(u, section, p),
+        |i| in_section(section, Part::WHOLE, i),
+        |i| in_section(section, Part::ENTRY_COUNT, i),
     )
 }
 
-// A section whose bytes differ, at a and b.
-fn compare_section(s: &[u8], t: &[u8], section: u8, a: usize, b: usize) -> Verdict
+// A section whose bytes differ, at two places.
+fn compare_section(s: &[u8], t: &[u8], section: u8, mut at: Sides) -> Verdict
     requires le_section { (1 ≤ section) × (section ≤ 12) }
-    requires both { Both (comparison section).format s.now t.now a b }
-    requires apart { same (span s.now a (past (comparison section).format s.now a)) (span t.now b (past (comparison section).format t.now b)) ≡ false }
-    ensures { result ≡ (comparison section).compare (value_at (comparison section).format s.now a) (value_at (comparison section).format t.now b) }
+    requires both { Both (comparison section).format s.now t.now at.snapshot at.target }
+    requires apart { same (span s.now at.snapshot (past (comparison section).format s.now at.snapshot)) (span t.now at.target (past (comparison section).format t.now at.target)) ≡ false }
+    ensures { result ≡ (comparison section).compare (value_at (comparison section).format s.now at.snapshot) (value_at (comparison section).format t.now at.target) }
 {
     match section {
-        Section::BLOCKS => compare_blocks(s, t, a, b),
+        Section::BLOCKS => compare_blocks(s, t, &mut at),
         Section::ENUMS | Section::CONNECTORS | Section::INPUT_DEFINITIONS => compare_named(
-            s, t, section, a, b,
+            s, t, section, &mut at,
         ),
-        _ => Verdict::Differs(section, Part::WHOLE, 0, 0),
+        _ => Err(in_section(section, Part::WHOLE, 0)),
     }
 }
 
@@ -128,11 +164,9 @@ fn section_start(s: &[u8], starts: Starts, section: u8) -> usize
     requires { (1 ≤ section) × (length starts.at ≡ 12) }
     ensures { result ≡ get_or starts.at (section - 1) (length s.now) }
 {
-    let i = section as usize - 1;
-    if i < 12 {
-        starts.at[i] as usize
-    } else {
-        s.len()
+    match starts.at.get(usize::from(section) - 1) {
+        Some(start) => *start as usize,
+        None => s.len(),
     }
 }
 
@@ -141,16 +175,16 @@ pub(crate) fn compare_sections(s: &[u8], t: &[u8], snapshot: Starts, target: Sta
     requires { Stands s.now snapshot.at × Stands t.now target.at }
     ensures { result ≡ verdict (manifest_of s.now) (manifest_of t.now) }
 {
-    let mut k = Section::PORTABILITY;
-    while k <= Section::INPUT_DEFINITIONS {
-        let a = section_start(s, snapshot, k);
-        let b = section_start(t, target, k);
-        let e = section_start(s, snapshot, k + 1);
-        let f = section_start(t, target, k + 1);
-        if !same_bytes(part(s, a, e), part(t, b, f)) {
-            return compare_section(s, t, k, a, b);
+    for k in Section::PORTABILITY..=Section::INPUT_DEFINITIONS {
+        let at = Sides {
+            snapshot: section_start(s, snapshot, k),
+            target: section_start(t, target, k),
+        };
+        let left = part(s, at.snapshot, section_start(s, snapshot, k + 1));
+        let right = part(t, at.target, section_start(t, target, k + 1));
+        if !same_bytes(left, right) {
+            return compare_section(s, t, k, at);
         }
-        k += 1;
     }
-    Verdict::Compatible
+    Ok(())
 }

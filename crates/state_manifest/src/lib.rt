@@ -29,9 +29,10 @@ pub fn state_words(s: &[u8], at: usize) -> u64
     requires { all end_fits (value_at (counted state_slots) s.now at) ≡ true }
     ensures { result ≡ word_total (value_at (counted state_slots) s.now at) }
 {
+    let count = count_at(s, at);
     let mut p = ahead(s, at, 4);
     let mut most = 0u64;
-    for _ in 0..count_at(s, at) {
+    for _ in 0..count {
         let offset = block_key_end(s, p);
         let length = ahead(s, offset, 8);
         most = most.max(number_at(s, offset) + number_at(s, length));
@@ -48,15 +49,17 @@ fn count_units(s: &[u8], index: &mut [u32]) -> Result<Units, Refusal<u64>>
 {
     let words = state_words(s, word_at(index, 8));
     let connectors = count_at(s, word_at(index, 3)) as u64;
-    let sum = words.checked_mul(4).and_then(|n| n.checked_add(connectors));
-    let Some(units) = sum else {
+    if (u64::MAX - connectors) / 4 < words {
         clear(index, 0, index.len());
         return Err(Refusal {
             question: Question(39),
             at: 0,
         });
-    };
-    Ok(Units { words, units })
+    }
+    Ok(Units {
+        words,
+        units: 4 * words + connectors,
+    })
 }
 
 // The word total and the units of a manifest, or its refusal. The index is left as `decode_manifest` leaves it, but cleared after 39.
@@ -90,7 +93,13 @@ pub fn compare_manifests(
     ensures index2_after { index2.new ≡ target_index target_bound_classes snapshot.now base revision index.old target.now base2 revision2 index2.old }
     ensures verdict_demand { VerdictDemand target_bound_classes snapshot.now base revision index.old target.now base2 revision2 index2.old result }
 {
-    let starts = decode_manifest(snapshot, base, revision, index).map_err(Side::Snapshot)?;
-    let starts2 = decode_manifest(target, base2, revision2, index2).map_err(Side::Target)?;
+    let starts = match decode_manifest(snapshot, base, revision, index) {
+        Ok(starts) => starts,
+        Err(refusal) => return Err(Side::Snapshot(refusal)),
+    };
+    let starts2 = match decode_manifest(target, base2, revision2, index2) {
+        Ok(starts) => starts,
+        Err(refusal) => return Err(Side::Target(refusal)),
+    };
     Ok(compare_sections(snapshot, target, starts, starts2))
 }

@@ -1,113 +1,104 @@
-use Rattle.state_manifest.proofs.Fields.{params-both, ports-both, block-is, block-past}
-use Rattle.state_manifest.proofs.Comparing.{or-next, or-found, some_left, walk_start, walk-fits, walk-both, walk-found, walk-next, walk_end, walk-ended}
-use Rattle.verdict.proofs.Faithful.{no_difference}
-use Rattle.verdict.specs.Verdict.{params_verdict}
-use Rattle.format.specs.Places.{past}
-use Rattle.format.specs.Manifest.{value, params}
-use Rattle.format.specs.Format.{plain, late}
-use mathlib.Core.Path.{refl, sym, ap, ◌∙◌}
 use native.Mathlib.Omega.{arith}
-use Rattle.std.proofs.Common.{rules}
+use mathlib.Core.Path.{◌≡◌, ◌∙◌, refl}
+use Prim.Native.Nat.{◌<◌, min}
+use Rattle.format.specs.Format.{text, plain, late}
+use Rattle.format.specs.Manifest.{value, params}
+use Rattle.verdict.specs.Verdict.{params_verdict}
+use Rattle.state_manifest.proofs.Comparing.{or-next, or-found, walk-here, walk_start, walk-both, walk-found, walk-next, walk_end, walk-ended}
+use Rattle.state_manifest.proofs.Fields.{params-both, params-found, params-past, ports-both, block-is, block-past}
 use Rattle.state_manifest.proofs.blocks.compare_blocks.Goals as goal
 
 pub blocks-2-init : goal.blocks-2-init
-blocks-2-init c = walk_start _ _ c.requires (search rules) c.count_at-left.ensures c.count_at-right.ensures c.ahead-p.ensures c.ahead-q.ensures
-
-pub compare_heads-head-requires : goal.compare_heads-head-requires
-compare_heads-head-requires c = walk-both c.blocks-2.invariant c.both_left.ensures c.if-not-both_left.false
-
-pub loop-parameter-init : goal.loop-parameter-init
-unfolding params_verdict params
-loop-parameter-init c =
-    let b = walk-both c.blocks-2.invariant c.both_left.ensures c.if-not-both_left.false in
-    walk_start 6 (late plain) (params-both _ _ _ _ c.parameters_at-list.ensures c.parameters_at-other.ensures b) (search rules)
-    c.count_at-m.ensures c.count_at-n.ensures c.ahead-x.ensures c.ahead-y.ensures
-
-pub compare_parameter-parameter-requires : goal.compare_parameter-parameter-requires
-compare_parameter-parameter-requires c = walk-both c.loop-parameter.invariant c.both_left-in-loop-parameter.ensures c.loop-parameter-test.true
-
-pub overflow_sub-m : goal.overflow_sub-m
-overflow_sub-m c =
-    (some_left c.loop-parameter.invariant c.both_left-in-loop-parameter.ensures c.loop-parameter-test.true).0
-
-pub overflow_sub-n : goal.overflow_sub-n
-overflow_sub-n c =
-    (some_left c.loop-parameter.invariant c.both_left-in-loop-parameter.ensures c.loop-parameter-test.true).1
-
-pub overflow_add-j : goal.overflow_add-j
-overflow_add-j c =
-    record { fits = walk-fits c.loop-parameter.invariant c.both_left-in-loop-parameter.ensures c.loop-parameter-test.true }
-
-pub loop-parameter-smaller : goal.loop-parameter-smaller
-loop-parameter-smaller c =
-    omega (arith, (some_left c.loop-parameter.invariant c.both_left-in-loop-parameter.ensures c.loop-parameter-test.true).0)
-
-pub loop-parameter-preserved : goal.loop-parameter-preserved
-unfolding past
-loop-parameter-preserved c =
-    walk-next c.loop-parameter.invariant c.both_left-in-loop-parameter.ensures c.loop-parameter-test.true c.compare_parameter-parameter.ensures c.in-Compatible-parameter.is
-    (c.value_end-x.ensures ∙ ap (past value _) c.text_end.ensures) (c.value_end-y.ensures ∙ ap (past value _) c.text_end-in-loop-parameter.ensures)
-
-pub compare_ports-ports-requires : goal.compare_ports-ports-requires
-compare_ports-ports-requires c =
-    let e = walk-ended c.loop-parameter.invariant c.both_left-in-loop-parameter.ensures c.loop-parameter-test.false c.compare_count-count.ensures (λ z. no_difference (sym z)) c.in-Compatible-count.is in
-    ports-both _ _ _ _ c.parameters_at-list.ensures c.parameters_at-other.ensures e.0 e.1 (walk-both c.blocks-2.invariant c.both_left.ensures c.if-not-both_left.false)
-
-pub overflow_sub-left : goal.overflow_sub-left
-overflow_sub-left c =
-    (some_left c.blocks-2.invariant c.both_left.ensures c.if-not-both_left.false).0
-
-pub overflow_sub-right : goal.overflow_sub-right
-overflow_sub-right c =
-    (some_left c.blocks-2.invariant c.both_left.ensures c.if-not-both_left.false).1
-
-pub overflow_add-i : goal.overflow_add-i
-overflow_add-i c =
-    record { fits = walk-fits c.blocks-2.invariant c.both_left.ensures c.if-not-both_left.false }
+blocks-2-init c =
+    let e = c.enter-counts.ensures in
+    walk_start _ _ c.requires e.counts.0 e.counts.1 e.places.0 e.places.1
 
 pub blocks-2-smaller : goal.blocks-2-smaller
-blocks-2-smaller c =
-    omega (arith, (some_left c.blocks-2.invariant c.both_left.ensures c.if-not-both_left.false).0)
+blocks-2-smaller c = omega (arith, c.blocks-2.invariant.reached)
+
+pub loop-j-init : goal.loop-j-init
+unfolding params
+loop-j-init c =
+    let b = walk-both c.blocks-2.invariant (omega (arith, c.blocks-2.invariant.reached)) in
+    let m = c.compare_head.ensures.moved c.in_default.is in
+    let e = c.enter-parameters.ensures in
+    walk-here 6 (late plain) (params-both _ _ _ _ m.snapshot m.target b) e.counts.0 e.counts.1 e.places.0 e.places.1
+
+pub compare_parameter-requires : goal.compare_parameter-requires
+compare_parameter-requires c = walk-both c.loop-j.invariant (omega arith)
+
+pub loop-j-preserved : goal.loop-j-preserved
+loop-j-preserved c =
+    let m = c.compare_parameter.ensures.moved c.in_default-compare_parameter.is in
+    walk-next c.loop-j.invariant (omega arith) c.compare_parameter.ensures.verdict c.in_default-compare_parameter.is m.snapshot m.target
+
+pub compare_ports-requires : goal.compare_ports-requires
+compare_ports-requires c =
+    let w = c.blocks-2.invariant in
+    let lt : c.blocks-2.i < min c.enter-counts.result.snapshot c.enter-counts.result.target = omega (arith, w.reached) in
+    let m = c.compare_head.ensures.moved c.in_default.is in
+    let e = c.enter-parameters.ensures in
+    let j : c.shorter-place.result ≡ c.loop-j.j = omega arith in
+    let x = rw (c.in_block-count.ensures, j) at c.compare_counts-in-blocks-2.ensures in
+    let h = params-past _ _ _ _ m.snapshot m.target e.counts.0 e.counts.1 e.places.0 e.places.1 (walk-ended c.loop-j.invariant (omega arith) x refl c.in_default-compare_counts.is) in
+    ports-both _ _ _ _ m.snapshot m.target h.0 h.1 (walk-both w lt)
 
 pub blocks-2-preserved : goal.blocks-2-preserved
 blocks-2-preserved c =
-    let e = walk-ended c.loop-parameter.invariant c.both_left-in-loop-parameter.ensures c.loop-parameter-test.false c.compare_count-count.ensures (λ z. no_difference (sym z)) c.in-Compatible-count.is in
-    let z = block-past _ _ _ _ c.parameters_at-list.ensures c.parameters_at-other.ensures e.0 e.1 c.connector_keys_end.ensures c.connector_keys_end-p.ensures c.connector_keys_end-in-blocks-2.ensures c.connector_keys_end-q.ensures in
-    walk-next c.blocks-2.invariant c.both_left.ensures c.if-not-both_left.false
-    (or-next c.compare_heads-head.ensures c.in-Compatible.is
-    (or-next (walk_end c.loop-parameter.invariant c.both_left-in-loop-parameter.ensures c.loop-parameter-test.false c.compare_count-count.ensures) c.in-Compatible-count.is c.compare_ports-ports.ensures)
-    ∙ block-is _ _ _ _ c.parameters_at-list.ensures c.parameters_at-other.ensures e.0 e.1 _)
-    c.in-Compatible-ports.is z.0 z.1
+    let w = c.blocks-2.invariant in
+    let lt : c.blocks-2.i < min c.enter-counts.result.snapshot c.enter-counts.result.target = omega (arith, w.reached) in
+    let m = c.compare_head.ensures.moved c.in_default.is in
+    let e = c.enter-parameters.ensures in
+    let j : c.shorter-place.result ≡ c.loop-j.j = omega arith in
+    let x = rw (c.in_block-count.ensures, j) at c.compare_counts-in-blocks-2.ensures in
+    let h = params-past _ _ _ _ m.snapshot m.target e.counts.0 e.counts.1 e.places.0 e.places.1 (walk-ended c.loop-j.invariant (omega arith) x refl c.in_default-compare_counts.is) in
+    let v = params-found _ _ _ _ m.snapshot m.target e.counts.0 e.counts.1 e.places.0 e.places.1 _ (walk_end c.loop-j.invariant (omega arith) x) in
+    let r = c.compare_ports.ensures.moved c.in_default-compare_ports.is in
+    let z = block-past _ _ _ _ m.snapshot m.target h.0 h.1 r.snapshot r.target in
+    walk-next w lt
+    (or-next c.compare_head.ensures.verdict c.in_default.is (or-next v c.in_default-compare_counts.is c.compare_ports.ensures.verdict) ∙ block-is _ _ _ _ m.snapshot m.target h.0 h.1 _)
+    c.in_default-compare_ports.is z.0 z.1
 
-pub returns-then-not-both_left : goal.returns-then-not-both_left
-returns-then-not-both_left c = walk_end c.blocks-2.invariant c.both_left.ensures c.if-not-both_left.true c.compare_count.ensures
+pub returns-then-i-shorter : goal.returns-then-i-shorter
+returns-then-i-shorter c = walk_end c.blocks-2.invariant (omega arith) (rw c.in_block.ensures at c.compare_counts.ensures)
 
-pub returns-in_default : goal.returns-in_default
-returns-in_default c =
-    let o = c.in_default.not-Compatible in
-    walk-found c.blocks-2.invariant c.both_left.ensures c.if-not-both_left.false (or-found _ c.compare_heads-head.ensures o ∙ block-is _ _ _ _ refl refl refl refl _) o
+pub returns-in-Err : goal.returns-in-Err
+returns-in-Err c =
+    let w = c.blocks-2.invariant in
+    let lt : c.blocks-2.i < min c.enter-counts.result.snapshot c.enter-counts.result.target = omega (arith, w.reached) in
+    walk-found w lt (c.in-Err.is ∙ or-found _ c.compare_head.ensures.verdict c.in-Err.is ∙ block-is _ _ _ _ refl refl refl refl _) c.in-Err.is
 
-pub returns-in_default-parameter : goal.returns-in_default-parameter
-returns-in_default-parameter c =
-    let o = c.in_default-parameter.not-Compatible in
-    walk-found c.blocks-2.invariant c.both_left.ensures c.if-not-both_left.false
-    (or-next c.compare_heads-head.ensures c.in-Compatible.is
-    (or-found _ (walk-found c.loop-parameter.invariant c.both_left-in-loop-parameter.ensures c.loop-parameter-test.true c.compare_parameter-parameter.ensures o) o)
-    ∙ block-is _ _ _ _ c.parameters_at-list.ensures c.parameters_at-other.ensures refl refl _) o
+pub returns-in-Err-compare_parameter : goal.returns-in-Err-compare_parameter
+returns-in-Err-compare_parameter c =
+    let w = c.blocks-2.invariant in
+    let lt : c.blocks-2.i < min c.enter-counts.result.snapshot c.enter-counts.result.target = omega (arith, w.reached) in
+    let m = c.compare_head.ensures.moved c.in_default.is in
+    let e = c.enter-parameters.ensures in
+    let f = walk-found c.loop-j.invariant (omega arith) c.compare_parameter.ensures.verdict c.in-Err-compare_parameter.is in
+    let v = params-found _ _ _ _ m.snapshot m.target e.counts.0 e.counts.1 e.places.0 e.places.1 _ f in
+    walk-found w lt (or-next c.compare_head.ensures.verdict c.in_default.is (or-found _ v refl) ∙ block-is _ _ _ _ m.snapshot m.target refl refl _) refl
 
-pub returns-in_default-count : goal.returns-in_default-count
-returns-in_default-count c =
-    let o = c.in_default-count.not-Compatible in
-    walk-found c.blocks-2.invariant c.both_left.ensures c.if-not-both_left.false
-    (or-next c.compare_heads-head.ensures c.in-Compatible.is
-    (or-found _ (walk_end c.loop-parameter.invariant c.both_left-in-loop-parameter.ensures c.loop-parameter-test.false c.compare_count-count.ensures) o)
-    ∙ block-is _ _ _ _ c.parameters_at-list.ensures c.parameters_at-other.ensures refl refl _) o
+pub returns-in-Err-compare_counts : goal.returns-in-Err-compare_counts
+returns-in-Err-compare_counts c =
+    let w = c.blocks-2.invariant in
+    let lt : c.blocks-2.i < min c.enter-counts.result.snapshot c.enter-counts.result.target = omega (arith, w.reached) in
+    let m = c.compare_head.ensures.moved c.in_default.is in
+    let e = c.enter-parameters.ensures in
+    let j : c.shorter-place.result ≡ c.loop-j.j = omega arith in
+    let x = rw (c.in_block-count.ensures, j) at c.compare_counts-in-blocks-2.ensures in
+    let v = params-found _ _ _ _ m.snapshot m.target e.counts.0 e.counts.1 e.places.0 e.places.1 _ (walk_end c.loop-j.invariant (omega arith) x) in
+    walk-found w lt (or-next c.compare_head.ensures.verdict c.in_default.is (or-found _ v c.in-Err-compare_counts.is) ∙ block-is _ _ _ _ m.snapshot m.target refl refl _) refl
 
-pub returns-in_default-ports : goal.returns-in_default-ports
-returns-in_default-ports c =
-    let e = walk-ended c.loop-parameter.invariant c.both_left-in-loop-parameter.ensures c.loop-parameter-test.false c.compare_count-count.ensures (λ z. no_difference (sym z)) c.in-Compatible-count.is in
-    walk-found c.blocks-2.invariant c.both_left.ensures c.if-not-both_left.false
-    (or-next c.compare_heads-head.ensures c.in-Compatible.is
-    (or-next (walk_end c.loop-parameter.invariant c.both_left-in-loop-parameter.ensures c.loop-parameter-test.false c.compare_count-count.ensures) c.in-Compatible-count.is c.compare_ports-ports.ensures)
-    ∙ block-is _ _ _ _ c.parameters_at-list.ensures c.parameters_at-other.ensures e.0 e.1 _)
-    c.in_default-ports.not-Compatible
+pub returns-in-Err-compare_ports : goal.returns-in-Err-compare_ports
+returns-in-Err-compare_ports c =
+    let w = c.blocks-2.invariant in
+    let lt : c.blocks-2.i < min c.enter-counts.result.snapshot c.enter-counts.result.target = omega (arith, w.reached) in
+    let m = c.compare_head.ensures.moved c.in_default.is in
+    let e = c.enter-parameters.ensures in
+    let j : c.shorter-place.result ≡ c.loop-j.j = omega arith in
+    let x = rw (c.in_block-count.ensures, j) at c.compare_counts-in-blocks-2.ensures in
+    let h = params-past _ _ _ _ m.snapshot m.target e.counts.0 e.counts.1 e.places.0 e.places.1 (walk-ended c.loop-j.invariant (omega arith) x refl c.in_default-compare_counts.is) in
+    let v = params-found _ _ _ _ m.snapshot m.target e.counts.0 e.counts.1 e.places.0 e.places.1 _ (walk_end c.loop-j.invariant (omega arith) x) in
+    walk-found w lt
+    (or-next c.compare_head.ensures.verdict c.in_default.is (or-next v c.in_default-compare_counts.is c.compare_ports.ensures.verdict) ∙ block-is _ _ _ _ m.snapshot m.target h.0 h.1 _)
+    c.in-Err-compare_ports.is

@@ -1,15 +1,9 @@
-use Prim.Native.Nat.{◌+◌}
-use Rattle.state_manifest.proofs.Comparing.{Walking}
-use Rattle.verdict.specs.Verdict.{in_blocks, field, ports_verdict}
-use Rattle.format.specs.Values.{value_at}
-use Rattle.format.specs.Places.{past}
-use Rattle.format.specs.Manifest.{connector_keys}
-use Rattle.format.specs.Keys.{connector_key}
-use Rattle.format.specs.Format.{done}
+use Rattle.state_manifest.specs.Comparing.{ports}
 use Rattle.state_manifest.proofs.blocks.compare_port_bindings.Given as goal
 
-abbrev pub invariant-loop-e : goal.invariant-loop-e
-invariant-loop-e l = Walking connector_key done (λ j' x y. field connector_key (in_blocks l.part l.i j') x.0 y.0) (in_blocks (l.part + 1) l.i) l.s l.t (ports_verdict l.part l.i (value_at connector_keys l.s l.a) (value_at connector_keys l.t l.b)) (past connector_keys l.s l.a) (past connector_keys l.t l.b) l.left l.right l.p l.q l.j
-
-abbrev pub decreases-loop-e : goal.decreases-loop-e
-decreases-loop-e l = l.left
+abbrev pub ghost-compare_lists : goal.ghost-compare_lists
+ghost-compare_lists a = record {
+  list = ports;
+  of_entry = λ j. record { section = 3; part = a.at_entry.0.now; entry = a.at_entry.1.now; inner = j };
+  of_count = λ j. record { section = 3; part = a.at_count.0.now; entry = a.at_count.1.now; inner = j };
+}

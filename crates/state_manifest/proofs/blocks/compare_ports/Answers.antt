@@ -1,17 +1,27 @@
-use Rattle.state_manifest.proofs.Comparing.{or-next, or-found, both_first, both-next}
-use Rattle.format.specs.Manifest.{connector_keys}
 use mathlib.Core.Path.{◌∙◌}
-use native.Mathlib.Omega.{arith}
+use Rattle.format.specs.Manifest.{connector_keys}
+use Rattle.format.specs.Places.{past}
+use Rattle.state_manifest.proofs.Comparing.{or-next, both_first, both-next}
 use Rattle.state_manifest.proofs.blocks.compare_ports.Goals as goal
 
-pub compare_port_bindings-inputs-requires : goal.compare_port_bindings-inputs-requires
-compare_port_bindings-inputs-requires c = record { both = both_first connector_keys connector_keys c.requires; part_bound = omega arith }
+pub compare_port_bindings-requires-clause-both : goal.compare_port_bindings-requires-clause-both
+unfolding connector_keys
+compare_port_bindings-requires-clause-both c = both_first connector_keys connector_keys c.requires
 
-pub returns-in_default : goal.returns-in_default
-returns-in_default c = or-found _ c.compare_port_bindings-inputs.ensures c.in_default.not-Compatible
+pub compare_port_bindings-requires-2-clause-both : goal.compare_port_bindings-requires-2-clause-both
+unfolding connector_keys
+compare_port_bindings-requires-2-clause-both c =
+    let m = c.compare_port_bindings.ensures.moved c.in_ok-compare_port_bindings.was in
+    both-next connector_keys connector_keys c.requires m.snapshot m.target
 
-pub compare_port_bindings-requires : goal.compare_port_bindings-requires
-compare_port_bindings-requires c = record { both = both-next connector_keys connector_keys c.requires c.connector_keys_end.ensures c.connector_keys_end-2.ensures; part_bound = omega arith }
+pub returns-clause-verdict : goal.returns-clause-verdict
+returns-clause-verdict c =
+    let m = c.compare_port_bindings.ensures.moved c.in_ok-compare_port_bindings.was in
+    or-next c.compare_port_bindings.ensures.verdict c.in_ok-compare_port_bindings.was (c.compare_port_bindings-2.ensures.verdict ∙ rw (m.snapshot, m.target))
 
-pub returns : goal.returns
-returns c = or-next c.compare_port_bindings-inputs.ensures c.in-Compatible.is (c.compare_port_bindings.ensures ∙ rw (c.connector_keys_end.ensures, c.connector_keys_end-2.ensures))
+pub returns-clause-moved : goal.returns-clause-moved
+unfolding past
+returns-clause-moved c = λ o.
+    let m = c.compare_port_bindings.ensures.moved c.in_ok-compare_port_bindings.was in
+    let n = c.compare_port_bindings-2.ensures.moved o in
+    record { snapshot = n.snapshot ∙ rw m.snapshot; target = n.target ∙ rw m.target }

@@ -1,9 +1,5 @@
 use Rattle.state_manifest.proofs.Verdicts.{Left}
-use Prim.Native.Nat.{◌-◌}
 use Rattle.state_manifest.proofs.compare.compare_sections.Given as goal
 
 abbrev pub invariant-loop-k : goal.invariant-loop-k
 invariant-loop-k l = Left l.s l.t l.k
-
-abbrev pub decreases-loop-k : goal.decreases-loop-k
-decreases-loop-k l = 13 - l.k
