@@ -14,7 +14,8 @@ use state_key_order::same_bytes;
 fn roll(t: &[u8]) -> u64
     ensures { result ≡ rolled t.now }
 {
-    t.iter().fold(0, |n, b| n % 72057594037927936 * 256 + u64::from(*b))
+    t.iter()
+        .fold(0, |n, b| n % 72057594037927936 * 256 + u64::from(*b))
 }
 
 // The two halves of a number, multiplied so that the upper bits depend on every bit.
