@@ -1,16 +1,17 @@
 -- Names in rows that are as long as the longest.
-use Prim.Native.Nat.{ℕ, zero, suc, ◌+◌, ◌-◌, ◌<◌, ◌≤◌}
+use Prim.Native.Nat.{ℕ, zero, suc, ◌-◌, ◌<◌, ◌≤◌}
 use native.Mathlib.Omega.{arith}
-use mathlib.Core.Path.{◌≡◌, refl, sym, ap, ◌∙◌, subst}
+use mathlib.Core.Path.{◌≡◌, refl, sym, ap, ◌∙◌}
 use mathlib.Core.Bool.{Bool, true, false, ◌&&◌}
 use mathlib.Core.List.{List, [], ◌∷◌, ◌++◌, map}
 use lib.ListN.{length, get_or, take, replicate}
 use lib.Seq.{take-append_seam}
-use lib.Dec.{leb}
-use borrow.Author.Tests.{leb-true}
+use lib.Dec.{leb, eqb}
+use lib.Pointwise.{pointwise}
+use borrow.Author.Tests.{leb-true, eqb-true, eq-eqb}
 use Rattle.text.proofs.Blocks.{both}
-use Rattle.format.specs.Lists.{same, is_in}
-use Rattle.format.proofs.Lists.{same-lengths, same-apart}
+use Rattle.format.specs.Lists.{same}
+use Rattle.format.proofs.Lists.{same-lengths, same-apart, same-told}
 use Rattle.state_portability.specs.declared.TheConstants.{TARGET_BOUND_LENGTHS, TARGET_BOUND_ENDS, TARGET_BOUND_CLASSES}
 use Rattle.questions.specs.Sets.{all}
 use Rattle.questions.specs.Portability.{ascii, target_bound_classes}
@@ -40,6 +41,20 @@ row-pad (n ∷ ns) (suc k) = row-pad ns k
 -- the last byte of a name
 abbrev last_of : List ℕ → ℕ
 last_of n = get_or n (length n - 1) 0
+
+-- as code compares bytes
+pub bytes-same : (x y : List ℕ) → pointwise eqb x y ≡ same x y
+bytes-same x y = same-told x y (pointwise eqb x y) (forth x y, λ e. rw e (back y))
+  where
+    forth : (x y : List ℕ) → pointwise eqb x y ≡ true → x ≡ y
+    forth [] [] h = refl
+    forth [] (b ∷ y) h = cc
+    forth (a ∷ x) [] h = cc
+    forth (a ∷ x) (b ∷ y) h = let p = both (eqb a b) (pointwise eqb x y) h in rw (eqb-true a b p.0, forth x y p.1)
+
+    back : (x : List ℕ) → pointwise eqb x x ≡ true
+    back [] = refl
+    back (a ∷ x) = rw (eq-eqb a a refl, back x)
 
 -- ---- the rows of the classes that depend on the target
 module _ (k : ℕ) where

@@ -14,17 +14,18 @@ ghost use Rattle.state_portability.specs.Bound.{some_bound_at};
 use state::{Portability, Question, Section};
 use state_index::keys::{block_key_end, byte_at};
 use state_index::{Table, ahead, text_end, text_part, word_at};
-use state_key_order::same_bytes;
 use state_layout::table_at;
 
 // The revision under which question 31 is asked.
 pub const EXECUTION_ABI_REVISION: u32 = 2;
 
+// How long the names of `TARGET_BOUND_CLASSES` are.
 const TARGET_BOUND_LENGTHS: [usize; 15] = [
     38, 46, 37, 14, 14, 14, 15, 13, 13, 13, 15, 13, 21, 13, 24,
 ];
 
-// The engine's classes that depend on the target, each in a row as long as the longest.
+// The engine's classes that depend on the target, each in a row as long as the longest: the project prescribes a constant array of byte arrays,
+// and the lengths stand beside it.
 const TARGET_BOUND_CLASSES: [[u8; 46]; 15] = [
     *b"CDL.Psychrometrics.DewPoint_TDryBulPhi\0\0\0\0\0\0\0\0",
     *b"CDL.Psychrometrics.SpecificEnthalpy_TDryBulPhi",
@@ -43,11 +44,10 @@ const TARGET_BOUND_CLASSES: [[u8; 46]; 15] = [
     *b"CDL.Utilities.SunRiseSet\0\0\0\0\0\0\0\0\0\0\0\0\0\0\0\0\0\0\0\0\0\0",
 ];
 
-// Their last bytes, which tell most classes of one length apart: to read a byte of the rows the compiler copies them all.
+// Their last bytes, which tell most classes of one length apart: the names start alike, so without them more rows would be compared.
 const TARGET_BOUND_ENDS: [u8; 15] = *b"iiisnn2spg0nnnt";
 
-// Is the class the row's?
-
+// Is the class the row's? Only where length and last byte are its own are the bytes compared.
 fn is_row(class: &[u8], row: usize) -> bool
     requires { row < 15 }
     ensures { result ≡ same class.now (get_or target_bound_classes row []) }
@@ -56,7 +56,7 @@ fn is_row(class: &[u8], row: usize) -> bool
     if class.len() != n || class[n - 1] != TARGET_BOUND_ENDS[row] {
         return false;
     }
-    same_bytes(class, &TARGET_BOUND_CLASSES[row][..n])
+    class == &TARGET_BOUND_CLASSES[row][..n]
 }
 
 // Is the class one of those that depend on the target?
@@ -77,7 +77,6 @@ fn some_requires_target(s: &[u8], index: &[u32], blocks: Table) -> bool
 }
 
 // Question 31.
-
 #[tactic(auto, using(crate::proofs::Bounding::tag_unasked, crate::proofs::Bounding::blocks_within, crate::proofs::Bounding::tag_asked))]
 fn tag_holds(s: &[u8], revision: u32, index: &[u32]) -> bool
     requires { Tabled s.now index.now }
@@ -89,7 +88,6 @@ fn tag_holds(s: &[u8], revision: u32, index: &[u32]) -> bool
 }
 
 // Question 32.
-
 #[tactic(auto, using(crate::proofs::Bounding::target_none, crate::proofs::Bounding::arch_none, crate::proofs::Bounding::os_there))]
 fn target_holds(s: &[u8]) -> bool
     ensures { result ≡ target_holds (portability_of (manifest_of s.now)) }
@@ -100,7 +98,6 @@ fn target_holds(s: &[u8]) -> bool
 }
 
 // Questions 31 and 32: yes, or the first that says no.
-
 #[tactic(auto, using(crate::proofs::Bounding::tag_no, crate::proofs::Bounding::target_no, crate::proofs::Bounding::both_yes))]
 pub fn validate_portability(s: &[u8], revision: u32, index: &[u32]) -> Result<(), Question>
     requires { Tabled s.now index.now }

@@ -120,7 +120,7 @@ fn slot_answer(s: &[u8], block: usize, slot: usize) -> Result<(), Question>
     Ok(())
 }
 
-// Questions 22 and 23, slot by slot: the slots are those of the stateful blocks, in order.
+// Questions 22 and 23, slot by slot: the slots are those of the stateful blocks, in order. All are asked 21 first, so this is a second walk.
 fn slot_answers(s: &[u8], index: &[u32], blocks: Table, slots: Table) -> Result<(), Question>
     requires { (blocks.to ≤ length index.now) × (slots.to ≤ length index.now) }
     ensures { result ≡ said (pairwise (words_asked s.now) (stateful_of s.now index.now blocks.from blocks.to) (span index.now slots.from slots.to)) }
