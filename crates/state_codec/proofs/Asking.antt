@@ -2,10 +2,13 @@
 use Prim.Native.Nat.{ℕ, suc, ◌+◌, ◌-◌, ◌≤◌, ◌<◌, min}
 use native.Mathlib.Omega.{arith}
 use native.Mathlib.Nat.{min-eq_left}
-use mathlib.Core.Path.{◌≡◌, sym, ap, ◌∙◌, subst}
+use mathlib.Core.Path.{◌≡◌, refl, sym, ap, ◌∙◌, subst}
 use mathlib.Core.List.{List, ◌∷◌, map}
 use lib.ListN.{length}
 use borrow.Author.Tests.{eq-eqb, ne_eqb}
+use Rattle.std.specs.Prelude.{Ok, Err}
+use Rattle.state.specs.Outcome.{said}
+use Rattle.state.specs.declared.Question.{Question}
 use Rattle.state_wire.specs.Fields.{max_snapshot_bytes}
 use Rattle.format.specs.Format.{late, wire}
 use Rattle.format.specs.Keys.{connector_key}
@@ -16,10 +19,11 @@ use Rattle.format.specs.Values.{values_at, value_at, Well, WellEach}
 use Rattle.format.proofs.Values.{values_length, well-list}
 use Rattle.questions.specs.Sets.{first}
 use Rattle.questions.specs.Declarations.{connector_names}
-use Rattle.questions.proofs.Chains.{says-yes, says-no, first_one, none-says-no, one-says-no}
+use Rattle.questions.proofs.Chains.{said-yes, said-no, says-yes, says-no, first_one, none-says-no, one-says-no}
 use Rattle.tail.specs.Tail.{values, value_answer, values_answer}
+use Rattle.state_index.specs.declared.Table.{Table}
 use Rattle.state_layout.specs.Classes.{classes_at}
-use Rattle.state_layout.specs.Tables.{manifest_of, table_start}
+use Rattle.state_layout.specs.Tables.{manifest_of, table_at}
 use Rattle.state_layout.proofs.Indexed.{table-enums, table-connectors, rows, room}
 use Rattle.state_layout.proofs.Names.{names-connectors, table-keyed}
 use Rattle.state_codec.specs.Listed.{connectors_at, Listed, Asked}
@@ -79,32 +83,39 @@ module _ (answer : Entry values → ℕ) (t : List ℕ) {to : ℕ} where
           well = rw (j, i) left.1;
         }
 
+-- the same as code says it
+module _ (answer : Entry values → ℕ) (t : List ℕ) {to w p : ℕ} (a : Asking answer t to w p) (h : w < to) where
+  pub asking-stops : {d : Question} → Err d ≡ said (answer (value_at (entry values) t p)) → Err d ≡ said (first (map answer (value_at (counted values) t 0)))
+  asking-stops e = e ∙ ap said (asking-no answer t a h refl (said-no (answer (value_at (entry values) t p)) (sym e)).1)
+
+  pub asking-on : {u : Unit} → Ok u ≡ said (answer (value_at (entry values) t p)) → {k p' : ℕ} → k ≡ past connector_key t p → p' ≡ past value t k → Asking answer t to (w + 1) p'
+  asking-on e = asking-next answer t a h refl (said-yes (answer (value_at (entry values) t p)) (sym e))
+
 -- ---- of the manifest
-module _ {s index : List ℕ} (a : Asked s index) {classes end from to : ℕ} (e2 : classes ≡ table_start 2 (manifest_of s)) (e3 : end ≡ table_start 3 (manifest_of s))
-    (e4 : from ≡ table_start 4 (manifest_of s)) (e5 : to ≡ table_start 5 (manifest_of s)) where
-  pub listed : Listed s index classes end from to
+module _ {s index : List ℕ} (a : Asked s index) {cs ks : Table} (ec : cs ≡ table_at 2 (manifest_of s)) (ek : ks ≡ table_at 4 (manifest_of s)) where
+  pub listed : Listed s index cs.from cs.to ks.from ks.to
   listed =
       let r = rows (manifest_of s) in
       let k = table-connectors a.tabled in
       record {
-        classed = rw (e2, e3) (table-keyed index a.tabled.bytes tt _ _ (table-enums a.tabled) _ (omega (arith, r)) (omega arith) (omega (arith, r, room a.tabled)));
-        connected = rw (e4, e5) (table-keyed index a.tabled.bytes tt _ _ k _ (omega (arith, r)) (omega arith) (omega (arith, r, room a.tabled)));
-        named = rw (e4, e5) (names-connectors a.tabled.bytes k ∙ ap connector_names (sym k.values));
+        classed = rw ec (table-keyed index a.tabled.bytes tt _ _ (table-enums a.tabled) _ (omega (arith, r)) (omega arith) (omega (arith, r, room a.tabled)));
+        connected = rw ek (table-keyed index a.tabled.bytes tt _ _ k _ (omega (arith, r)) (omega arith) (omega (arith, r, room a.tabled)));
+        named = rw ek (names-connectors a.tabled.bytes k ∙ ap connector_names (sym k.values));
       }
 
-  classes-are : classes_at s index classes end ≡ enums_of (manifest_of s)
-  classes-are = rw (e2, e3) (table-enums a.tabled).values
+  classes-are : classes_at s index cs.from cs.to ≡ enums_of (manifest_of s)
+  classes-are = rw ec (table-enums a.tabled).values
 
-  connectors-are : connectors_at s index from to ≡ connectors_of (manifest_of s)
-  connectors-are = rw (e4, e5) (table-connectors a.tabled).values
+  connectors-are : connectors_at s index ks.from ks.to ≡ connectors_of (manifest_of s)
+  connectors-are = rw ek (table-connectors a.tabled).values
 
   -- they are so many
-  connectors-count : to - from ≡ length (connectors_of (manifest_of s))
-  connectors-count = omega (arith, rows (manifest_of s), e4, e5)
+  connectors-count : ks.to - ks.from ≡ length (connectors_of (manifest_of s))
+  connectors-count = rw ek (omega (arith, rows (manifest_of s)))
 
   -- the table of connectors ends behind its start
-  pub forward : from ≤ to
-  forward = omega (arith, rows (manifest_of s), e4, e5)
+  pub forward : ks.from ≤ ks.to
+  forward = rw ek (omega (arith, rows (manifest_of s)))
 
   module _ (t : List ℕ) {n : ℕ} (counts : n ≡ number_at 4 t 0) where
     long : length (value_at (counted values) t 0) ≡ n
@@ -112,14 +123,14 @@ module _ {s index : List ℕ} (a : Asked s index) {classes end from to : ℕ} (e
     long = values_length (value_at connector_key t) (value_at value t) (past connector_key t) (past value t) (number_at 4 t 0) _ ∙ sym counts
 
     -- more or fewer
-    pub values-miscounted : (n ≡ to - from → ⊥) → 33 ≡ values_answer (enums_of (manifest_of s)) (connectors_of (manifest_of s)) (value_at (counted values) t 0)
+    pub values-miscounted : (n ≡ ks.to - ks.from → ⊥) → 33 ≡ values_answer (enums_of (manifest_of s)) (connectors_of (manifest_of s)) (value_at (counted values) t 0)
     unfolding values_answer
-    values-miscounted h = says-no 32 _ (rw (long, ← connectors-count) (ne_eqb n (to - from) h))
+    values-miscounted h = says-no 32 _ (rw (long, ← connectors-count) (ne_eqb n (ks.to - ks.from) h))
 
     -- as many
-    pub values-answered : n ≡ to - from → {r : ℕ}
-        → r ≡ first (map (value_answer (classes_at s index classes end) (connectors_at s index from to)) (value_at (counted values) t 0))
-        → r ≡ values_answer (enums_of (manifest_of s)) (connectors_of (manifest_of s)) (value_at (counted values) t 0)
+    pub values-answered : n ≡ ks.to - ks.from
+        → first (map (value_answer (classes_at s index cs.from cs.to) (connectors_at s index ks.from ks.to)) (value_at (counted values) t 0))
+        ≡ values_answer (enums_of (manifest_of s)) (connectors_of (manifest_of s)) (value_at (counted values) t 0)
     unfolding values_answer
-    values-answered h e =
-        e ∙ rw (classes-are, connectors-are) (sym (says-yes 33 _ (rw (long, ← connectors-count) (eq-eqb n (to - from) h)) ∙ first_one _))
+    values-answered h =
+        rw (classes-are, connectors-are) (sym (says-yes 33 _ (rw (long, ← connectors-count) (eq-eqb n (ks.to - ks.from) h)) ∙ first_one _))

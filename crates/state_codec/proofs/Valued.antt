@@ -22,8 +22,7 @@ use Rattle.questions.specs.References.{is_known}
 use Rattle.questions.specs.Inputs.{same_type, has_type}
 use Rattle.questions.proofs.Chains.{says-yes, says-no, first_one}
 use Rattle.tail.specs.Tail.{values, value_key, value_of, type_is, value_answer}
-use Rattle.state_index.specs.declared.Found.{Found}
-use Rattle.state_index.specs.declared.Found.TheVariants.{At, Nothing}
+use Rattle.std.specs.Prelude.{Option, Some, None}
 use Rattle.state_index.specs.Find.{Finds}
 use Rattle.state_index.proofs.Search.{span-get}
 use Rattle.state_layout.specs.Classes.{classes_at}
@@ -45,7 +44,7 @@ names_at s ps = map-map (λ c. encode connector_key (connector_key_of c)) (value
 -- the value at a position of t, and what a search for its key among the connectors in s found
 module _ {s index : List ℕ} {classes end from to : ℕ} (t : List ℕ) (at : ℕ) (l : Listed s index classes end from to) (bytes : AreBytes t)
     (well : Well max_snapshot_bytes (entry values) t at) {key : List ℕ} (reads : key ≡ key_at (numbered 4) t at)
-    {f : Found} (r : Finds (numbered 4) s index from to key f) where
+    {f : Option ℕ} (r : Finds (numbered 4) s index from to key f) where
   abbrev v : Entry values
   v = value_at (entry values) t at
 
@@ -65,12 +64,12 @@ module _ {s index : List ℕ} {classes end from to : ℕ} (t : List ℕ) (at : �
   known_is = rw (← key-is, ← l.named)
 
   -- no connector has it
-  pub value-unknown : f ≡ Nothing → 34 ≡ answer
+  pub value-unknown : f ≡ None → 34 ≡ answer
   unfolding numbered value_answer
   value-unknown n = says-no 33 _ (known_is ∙ r.nothing n)
 
   -- the word of the connector that has it
-  module _ {w : ℕ} (i : f ≡ At w) where
+  module _ {w : ℕ} (i : f ≡ Some w) where
     found : (from ≤ w) × (w < to) × (key_at connectors s (get_or index w 0) ≡ key)
     unfolding numbered
     found = r.at w i

@@ -7,11 +7,9 @@ use mathlib.Core.List.{List, []}
 use lib.ListN.{length}
 use lib.Dec.{ltb, leb}
 use borrow.Author.Tests.{le-leb, lt-leb, leb-true, leb-false, lt-ltb, le-ltb, eq-eqb, ne_eqb}
-use Rattle.state.specs.Outcome.{got, step_of, field_of, step_of_field}
-use Rattle.state.specs.declared.Step.{Step}
-use Rattle.state.specs.declared.Step.TheVariants as step
-use Rattle.state.specs.declared.Field.{Field}
-use Rattle.state.specs.declared.Field.TheVariants as field
+use Rattle.state.specs.declared.Refusal.{Refusal}
+use Rattle.std.specs.Prelude.{Ok, Err}
+use Rattle.state.specs.Outcome.{got, step_of, field_of, step_of_field, Stepped, NumberRead, refuses}
 use Rattle.state.proofs.Outcome.{value-got, value-refused, step-yields, Yields, this, always, yields-bind}
 use Rattle.state_wire.specs.Fields.{read_span, read_number, read_count, max_snapshot_bytes}
 use Rattle.format.specs.Format.{El, free, done, number, entries, read, scan, scan_entries}
@@ -20,14 +18,14 @@ use Rattle.state_layout.proofs.Tables.{limit}
 use Rattle.tail.specs.Tail.{words, flags, read_words, read_flags}
 
 -- words whose bytes are there are passed over
-words-passed : (t : List ℕ) (n at : ℕ) → at + 8 * n ≤ length t → scan_entries limit free (number 8) done t n at [] ≡ step.Next (at + 8 * n)
+words-passed : (t : List ℕ) (n at : ℕ) → at + 8 * n ≤ length t → scan_entries limit free (number 8) done t n at [] ≡ Ok (at + 8 * n)
 unfolding scan_entries scan read read_number read_span
-words-passed t zero at h = let z : at ≡ at + 0 = omega arith in ap step.Next z
+words-passed t zero at h = let z : at ≡ at + 0 = omega arith in ap Ok z
 words-passed t (suc n) at h =
     let i : at + 8 ≤ length t = omega arith in
     let z : at + 8 + 8 * n ≡ at + 8 * suc n = omega arith in
     scan-entries limit free (number 8) done t n at []
-    ∙ rw (le-leb (at + 8) (length t) i) (forgets limit (number 8) done t n (at + 8) _ ∙ words-passed t n (at + 8) (omega arith) ∙ ap step.Next z)
+    ∙ rw (le-leb (at + 8) (length t) i) (forgets limit (number 8) done t n (at + 8) _ ∙ words-passed t n (at + 8) (omega arith) ∙ ap Ok z)
 
 -- entries that were read are as many as were counted
 yields-entries : (t : List ℕ) (n at : ℕ) (ks : List (List ℕ)) → Yields (λ vs _. length vs ≡ n) (entries free (read limit (number 8)) (read limit done) t n at ks)
@@ -38,13 +36,13 @@ yields-entries t (suc n) at ks =
     yields-bind (yields-entries t n e _) λ vs z h.
     this (ap suc h)
 
-module _ (t : List ℕ) (at total : ℕ) {g : Field} (e : g ≡ field_of (read_count 8 8 t at)) where
+module _ (t : List ℕ) (at total : ℕ) {g : NumberRead} (e : g ≡ field_of (read_count 8 8 t at)) where
   -- refused by the count's bytes, or by 7
-  pub words-stop : {q p : ℕ} → g ≡ field.Refused q p → {r : Step} → r ≡ step_of_field g → r ≡ step_of (read_words total t at)
+  pub words-stop : {d : Refusal ℕ} → g ≡ Err d → {r : Stepped} → r ≡ step_of_field g → r ≡ step_of (read_words total t at)
   unfolding read_words words read
   words-stop h i = i ∙ ap step_of_field h ∙ rw (value-refused (read_count 8 8 t at) e h)
 
-  module _ {n m : ℕ} (h : g ≡ field.Value n m) where
+  module _ {n m : ℕ} (h : g ≡ Ok (n, m)) where
     -- the words counted are there
     pub words-fit : m + 8 * n ≤ length t
     words-fit = let f = counted-fits t at 8 8 e h in omega (arith, f.2, f.3)
@@ -57,35 +55,35 @@ module _ (t : List ℕ) (at total : ℕ) {g : Field} (e : g ≡ field_of (read_c
         (y.0, rw (value-got (read_count 8 8 t at) e h) y.1, y.2)
 
     -- 37 says no
-    pub words-other : (n ≡ total → ⊥) → step.Refused 37 at ≡ step_of (read_words total t at)
+    pub words-other : (n ≡ total → ⊥) → refuses 37 at ≡ step_of (read_words total t at)
     unfolding read_words words
     words-other z = rw (words-read.1, words-read.2, ne_eqb n total z)
 
     -- 37 says yes
-    pub words_right : n ≡ total → step.Next (m + 8 * n) ≡ step_of (read_words total t at)
+    pub words_right : n ≡ total → Ok (m + 8 * n) ≡ step_of (read_words total t at)
     unfolding read_words words
     words_right z = rw (words-read.1, words-read.2, eq-eqb n total z)
 
 -- ---- the flags
-module _ (t : List ℕ) (at : ℕ) {g : Field} (e : g ≡ field_of (read_number 4 t at)) where
+module _ (t : List ℕ) (at : ℕ) {g : NumberRead} (e : g ≡ field_of (read_number 4 t at)) where
   -- refused by their bytes
-  pub flags-stop : {q p : ℕ} → g ≡ field.Refused q p → {r : Step} → r ≡ step_of_field g → r ≡ step_of (read_flags t at)
+  pub flags-stop : {d : Refusal ℕ} → g ≡ Err d → {r : Stepped} → r ≡ step_of_field g → r ≡ step_of (read_flags t at)
   unfolding read_flags flags read
   flags-stop h i = i ∙ ap step_of_field h ∙ rw (value-refused (read_number 4 t at) e h)
 
-  module _ {f n : ℕ} (h : g ≡ field.Value f n) where
+  module _ {f n : ℕ} (h : g ≡ Ok (f, n)) where
     -- 38 says no
-    pub flags-set : (f ≡ 0 → ⊥) → step.Refused 38 at ≡ step_of (read_flags t at)
+    pub flags-set : (f ≡ 0 → ⊥) → refuses 38 at ≡ step_of (read_flags t at)
     unfolding read_flags flags read
     flags-set z = rw (value-got (read_number 4 t at) e h, ne_eqb f 0 z)
 
     -- nothing is left over
-    pub flags-end : f ≡ 0 → n ≡ length t → step.Next n ≡ step_of (read_flags t at)
+    pub flags-end : f ≡ 0 → n ≡ length t → Ok n ≡ step_of (read_flags t at)
     unfolding read_flags flags read
     flags-end z i = rw (value-got (read_number 4 t at) e h, eq-eqb f 0 z, eq-eqb n (length t) i)
 
     -- 10 says no
-    pub flags-more : f ≡ 0 → (n ≡ length t → ⊥) → step.Refused 10 n ≡ step_of (read_flags t at)
+    pub flags-more : f ≡ 0 → (n ≡ length t → ⊥) → refuses 10 n ≡ step_of (read_flags t at)
     unfolding read_flags flags read
     flags-more z i = rw (value-got (read_number 4 t at) e h, eq-eqb f 0 z, ne_eqb n (length t) i)
 

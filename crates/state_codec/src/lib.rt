@@ -75,7 +75,9 @@ fn read_tail(s: &[u8], index: &[u32], t: &[u8]) -> Step
     let Ok(p) = values else {
         return values;
     };
-    validate_values(s, index, t).map_err(|question| Refusal { question, at: p })?;
+    if let Err(question) = validate_values(s, index, t) {
+        return Err(Refusal { question, at: p });
+    }
     let words = read_words(t, p, state_words(s, word_at(index, 8)));
     let Ok(q) = words else {
         return words;
@@ -108,8 +110,7 @@ pub fn decode_snapshot(
         };
         return Err(refused(base, refusal, index));
     }
-    let judged = judge(bytes, revision, index);
-    if let Err(refusal) = judged {
+    if let Err(refusal) = judge(bytes, revision, index) {
         return Err(refused(base, refusal, index));
     }
     match read_tail(bytes, index, tail) {

@@ -20,7 +20,7 @@ use Rattle.state_manifest.proofs.Comparing.{both_first, both-next, field_is, lis
 -- ---- the ports of a block, as a list of keys with nothing behind them
 key-alone : (f : Fmt) (d : Agreement) (v w : El (f then done)) → field (f then done) d v w ≡ field f d v.0 w.0
 unfolding field encode
-key-alone f d v w = rw (append-nil, append-nil)
+key-alone f d v w = simp append-nil
 
 pub ports_are : (part i : ℕ) (v w : El connector_keys) → ports_verdict part i v w ≡ unfold connector_keys in lists_verdict (ports_lists part i) v w
 unfolding ports_verdict connector_keys along

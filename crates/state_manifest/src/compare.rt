@@ -32,7 +32,7 @@ impl Sides {
     }
 }
 
-// What two parts come to that reach from two places to where `end` says: nothing, or this difference. The places move there.
+// What the parts from two places up to where `end` says come to: nothing, or this difference. The places move there.
 pub(crate) fn compare_part<E: Fn(&[u8], usize) -> usize>(
     s: &[u8],
     t: &[u8],
@@ -182,7 +182,8 @@ pub(crate) fn compare_sections(s: &[u8], t: &[u8], snapshot: Starts, target: Sta
         };
         let left = part(s, at.snapshot, section_start(s, snapshot, k + 1));
         let right = part(t, at.target, section_start(t, target, k + 1));
-        if !same_bytes(left, right) {
+        let apart = !same_bytes(left, right);
+        if apart {
             return compare_section(s, t, k, at);
         }
     }

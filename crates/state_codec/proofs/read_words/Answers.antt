@@ -14,11 +14,11 @@ returns-then-words-total c = search (tails, goings)
 
 pub overflow_mul-result : goal.overflow_mul-result
 overflow_mul-result c =
-    omega (arith, words-fit _ _ 0 (count-on _ _ _ _ c.read_u64-number.ensures c.in-Value.is c.bounded_count-count.ensures) c.in-Value-count.is)
+    omega (arith, words-fit _ _ 0 (count-on _ _ _ _ c.read_number-number.ensures c.in-Ok.is c.bounded_count-count.ensures) c.in-Ok-count.is)
 
 pub overflow_add-result : goal.overflow_add-result
 overflow_add-result c =
-    omega (arith, words-fit _ _ 0 (count-on _ _ _ _ c.read_u64-number.ensures c.in-Value.is c.bounded_count-count.ensures) c.in-Value-count.is)
+    omega (arith, words-fit _ _ 0 (count-on _ _ _ _ c.read_number-number.ensures c.in-Ok.is c.bounded_count-count.ensures) c.in-Ok-count.is)
 
 pub returns : goal.returns
 returns c = search (tails, goings)

@@ -1,9 +1,8 @@
 use native.Mathlib.Omega.{arith}
 use mathlib.Core.Path.{◌≡◌, ◌∙◌, refl}
 use Prim.Native.Nat.{◌<◌, min}
-use Rattle.format.specs.Format.{text, plain, late}
-use Rattle.format.specs.Manifest.{value, params}
-use Rattle.verdict.specs.Verdict.{params_verdict}
+use Rattle.format.specs.Format.{plain, late}
+use Rattle.format.specs.Manifest.{params}
 use Rattle.state_manifest.proofs.Comparing.{or-next, or-found, walk-here, walk_start, walk-both, walk-found, walk-next, walk_end, walk-ended}
 use Rattle.state_manifest.proofs.Fields.{params-both, params-found, params-past, ports-both, block-is, block-past}
 use Rattle.state_manifest.proofs.blocks.compare_blocks.Goals as goal

@@ -38,14 +38,12 @@ returns-in_err-compare_part-clause-verdict g c =
 pub returns-clause-verdict : goal.returns-clause-verdict
 returns-clause-verdict g c =
     let r = c.requires.1.1.1.1.1.1.1 in
-    let i : c.shorter.result ≡ c.loop-i.i = omega arith in
-    let d : c.at_count.result ≡ g.lists.of_count c.loop-i.i = r.count-so (rw i at c.at_count.ensures) in
+    let d : c.at_count.result ≡ g.lists.of_count c.loop-i.i = r.count-so c.at_count.ensures ∙ ap g.lists.of_count (omega arith) in
     walk_end c.loop-i.invariant (omega (arith, c.loop-i.invariant.reached)) (c.compare_counts.ensures ∙ rw d)
 
 pub returns-clause-moved : goal.returns-clause-moved
 returns-clause-moved g c = λ o.
     let r = c.requires.1.1.1.1.1.1.1 in
-    let i : c.shorter.result ≡ c.loop-i.i = omega arith in
-    let d : c.at_count.result ≡ g.lists.of_count c.loop-i.i = r.count-so (rw i at c.at_count.ensures) in
+    let d : c.at_count.result ≡ g.lists.of_count c.loop-i.i = r.count-so c.at_count.ensures ∙ ap g.lists.of_count (omega arith) in
     let e = walk-ended c.loop-i.invariant (omega (arith, c.loop-i.invariant.reached)) (c.compare_counts.ensures ∙ rw d) refl o in
     record { snapshot = e.0; target = e.1 }

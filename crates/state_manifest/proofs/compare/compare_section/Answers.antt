@@ -1,6 +1,5 @@
+use Rattle.std.proofs.Common.{rules}
 use Rattle.state_manifest.proofs.Verdicts.{blocks-both, blocks-found, named-both, named-found, whole-differs}
-use mathlib.Core.Path.{◌∙◌, ap}
-use Rattle.std.specs.Prelude.{Err}
 use mathlib.Core.Logic.{inl, inr}
 use Rattle.state_manifest.proofs.compare.compare_section.Goals as goal
 
@@ -17,4 +16,6 @@ pub returns-in-2 : goal.returns-in-2
 returns-in-2 c = named-found _ _ _ _ c.in-2.is c.compare_named.ensures
 
 pub returns-in_default : goal.returns-in_default
-returns-in_default c = ap Err c.in_section.ensures ∙ whole-differs _ _ _ _ _ c.requires.le_section (λ w. elim w [ inl x ↦ c.in_default.in_default-own.rest.0.1 x | inr x ↦ c.in_default.in_default-own.rest.1 x ]) c.requires.both c.requires.apart
+returns-in_default c =
+    let d = whole-differs _ _ _ _ _ c.requires.le_section (λ w. elim w [ inl x ↦ search rules | inr x ↦ search rules ]) c.requires.both c.requires.apart in
+    cc

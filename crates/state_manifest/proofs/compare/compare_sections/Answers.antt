@@ -1,3 +1,4 @@
+use Rattle.std.proofs.Common.{rules}
 use Rattle.state_manifest.proofs.Verdicts.{left-start, left_end, section-both, section-apart, section-found, section-same}
 use Rattle.state_manifest.proofs.compare.compare_sections.Goals as goal
 
@@ -11,17 +12,17 @@ compare_section-requires-clause-both c =
 pub compare_section-requires-clause-apart : goal.compare_section-requires-clause-apart
 compare_section-requires-clause-apart c =
     section-apart c.requires.0 c.requires.1 c.loop-k.invariant c.loop-k-test.true c.section_start.ensures c.section_start-in-loop-k.ensures c.section_start-in-loop-k-2.ensures c.section_start-in-loop-k-3.ensures
-    c.part-left.ensures c.part-right.ensures c.same_bytes.ensures c.if-not-same_bytes.true
+    c.part-left.ensures c.part-right.ensures c.same_bytes-apart.ensures (search rules)
 
-pub returns-then-not-same_bytes : goal.returns-then-not-same_bytes
-returns-then-not-same_bytes c =
+pub returns-then-apart : goal.returns-then-apart
+returns-then-apart c =
     section-found c.requires.0 c.requires.1 c.loop-k.invariant c.loop-k-test.true c.section_start.ensures c.section_start-in-loop-k.ensures c.section_start-in-loop-k-2.ensures c.section_start-in-loop-k-3.ensures
-    c.part-left.ensures c.part-right.ensures c.same_bytes.ensures c.if-not-same_bytes.true c.compare_section.ensures
+    c.part-left.ensures c.part-right.ensures c.same_bytes-apart.ensures (search rules) c.compare_section.ensures
 
 pub loop-k-preserved : goal.loop-k-preserved
 loop-k-preserved c =
     section-same c.requires.0 c.requires.1 c.loop-k.invariant c.loop-k-test.true c.section_start.ensures c.section_start-in-loop-k.ensures c.section_start-in-loop-k-2.ensures c.section_start-in-loop-k-3.ensures
-    c.part-left.ensures c.part-right.ensures c.same_bytes.ensures c.if-not-same_bytes.false
+    c.part-left.ensures c.part-right.ensures c.same_bytes-apart.ensures (search rules)
 
 pub returns : goal.returns
 returns c = left_end c.loop-k.invariant c.loop-k-test.false
