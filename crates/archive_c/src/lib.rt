@@ -9,7 +9,7 @@ ghost use Rattle.state_reader.specs.Read.{string_read};
 ghost use Rattle.state_key_order.specs.Compare.{block_keys_compared, connector_keys_compared};
 ghost use Rattle.archive_c.specs.Codes.{order_code, string_code, string_words, keys_code, keys_words};
 
-use state_key_order::{KeyRefused, KeysCompared};
+use state_key_order::{KeyRefusal, KeysCompared};
 use state_reader::StringRead;
 use std::cmp::Ordering;
 
@@ -39,8 +39,8 @@ fn keys_answer(keys: KeysCompared) -> (u32, [u64; 2])
 {
     match keys {
         Ok(compared) => (code_of(compared.order), [compared.agree as u64, 0]),
-        Err(KeyRefused::Left(refusal)) => (3, [u64::from(refusal.question.0), refusal.at as u64]),
-        Err(KeyRefused::Right(refusal)) => (4, [u64::from(refusal.question.0), refusal.at as u64]),
+        Err(KeyRefusal::Left(refusal)) => (3, [u64::from(refusal.question.0), refusal.at as u64]),
+        Err(KeyRefusal::Right(refusal)) => (4, [u64::from(refusal.question.0), refusal.at as u64]),
     }
 }
 

@@ -2,8 +2,8 @@
 use Rattle.std.specs.Prelude.{ℕ, List, ◌∷◌, ◌++◌, replicate, Result, Ok, Err}
 use Rattle.state.specs.declared.Refusal.{Refusal}
 use Rattle.state.specs.declared.Units.{Units}
-use Rattle.state.specs.declared.Side.{Side}
-use Rattle.state.specs.declared.Side.TheVariants.{Snapshot, Target}
+use Rattle.state.specs.declared.SideRefusal.{SideRefusal}
+use Rattle.state.specs.declared.SideRefusal.TheVariants.{Snapshot, Target}
 use Rattle.questions.specs.Answers.{Decoded}
 use Rattle.verdict.specs.Verdict.{Agreement}
 
@@ -28,14 +28,14 @@ units_words (Ok u) = u.words ∷ u.units ∷ replicate 14 0
 units_words (Err d) = d.at ∷ replicate 15 0
 
 -- a call on two manifests: 0 where they were compared, or the number of the question that one of them was refused for
-abbrev pub verdict_code : Result Agreement Side → ℕ
+abbrev pub verdict_code : Result Agreement SideRefusal → ℕ
 verdict_code (Ok v) = 0
 verdict_code (Err (Snapshot d)) = d.question.0
 verdict_code (Err (Target d)) = d.question.0
 
 -- section (0 where nothing differs), part, entry place and inner place; or the offset, and which side it is of: 0 the snapshot's, 1 the
 -- target's; the others are 0
-abbrev pub verdict_words : Result Agreement Side → List ℕ
+abbrev pub verdict_words : Result Agreement SideRefusal → List ℕ
 verdict_words (Ok (Ok u)) = replicate 16 0
 verdict_words (Ok (Err d)) = d.section ∷ d.part ∷ d.entry ∷ d.inner ∷ replicate 12 0
 verdict_words (Err (Snapshot d)) = d.at ∷ 0 ∷ replicate 14 0

@@ -9,7 +9,7 @@ ghost use Rattle.verdict.specs.Answers.{compare_manifests, target_index};
 ghost use Rattle.tail.specs.Answers.{decode_snapshot, snapshot_index};
 ghost use Rattle.handover_c.specs.Codes.{decoded_code, decoded_words, units_code, units_words, verdict_code, verdict_words};
 
-use state::{Decoded, Refusal, Side, Starts, Units, Verdict};
+use state::{Decoded, Refusal, SideRefusal, Starts, Units, Verdict};
 
 // Four words of an answer; the others are 0.
 fn four_words(a: u64, b: u64, c: u64, d: u64) -> [u64; 16]
@@ -56,7 +56,7 @@ fn units_answer(units: Result<Units, Refusal<u64>>) -> (u32, [u64; 16])
     }
 }
 
-fn verdict_answer(verdict: Result<Verdict, Side>) -> (u32, [u64; 16])
+fn verdict_answer(verdict: Result<Verdict, SideRefusal>) -> (u32, [u64; 16])
     ensures { (result.0 ≡ verdict_code verdict) × (result.1 ≡ verdict_words verdict) }
 {
     match verdict {
@@ -70,8 +70,8 @@ fn verdict_answer(verdict: Result<Verdict, Side>) -> (u32, [u64; 16])
                 d.inner as u64,
             ),
         ),
-        Err(Side::Snapshot(refusal)) => refused(refusal, 0),
-        Err(Side::Target(refusal)) => refused(refusal, 1),
+        Err(SideRefusal::Snapshot(refusal)) => refused(refusal, 0),
+        Err(SideRefusal::Target(refusal)) => refused(refusal, 1),
     }
 }
 

@@ -16,7 +16,7 @@
 use order::Compared;
 use replay_lines::{after_word, bytes, number, position};
 use state::{Field, Refusal, Step};
-use state_key_order::{KeyRefused, KeysCompared};
+use state_key_order::{KeyRefusal, KeysCompared};
 use state_wire::part;
 use std::cmp::Ordering;
 use std::fmt::Display;
@@ -57,8 +57,8 @@ fn print_compared(rt: &impl Print, compared: Compared) -> io::Result<()> {
 fn print_keys(rt: &impl Print, keys: KeysCompared) -> io::Result<()> {
     match keys {
         Ok(compared) => print_compared(rt, compared),
-        Err(KeyRefused::Left(refusal)) => println!(rt; "left refused {refusal}"),
-        Err(KeyRefused::Right(refusal)) => println!(rt; "right refused {refusal}"),
+        Err(KeyRefusal::Left(refusal)) => println!(rt; "left refused {refusal}"),
+        Err(KeyRefusal::Right(refusal)) => println!(rt; "right refused {refusal}"),
     }
 }
 

@@ -13,7 +13,7 @@
 #![tactic(auto)]
 
 use replay_lines::{after_word, bytes, number, position};
-use state::{Decoded, Difference, Question, Side, Verdict};
+use state::{Decoded, Difference, Question, SideRefusal, Verdict};
 use state_wire::part;
 use std::io;
 use std::io::BufRead;
@@ -54,11 +54,11 @@ fn is_left(decoded: Decoded, index: &[u32]) -> bool {
 }
 
 // Whether both indexes are what the verdict says that they are. Starts are not looked at: they are printed.
-fn are_left(verdict: Result<Verdict, Side>, index: &[u32], index2: &[u32]) -> bool {
+fn are_left(verdict: Result<Verdict, SideRefusal>, index: &[u32], index2: &[u32]) -> bool {
     match verdict {
-        Err(Side::Snapshot(refusal)) => is_refused(refusal.question, index)
+        Err(SideRefusal::Snapshot(refusal)) => is_refused(refusal.question, index)
             && are_all(index2, FILL),
-        Err(Side::Target(refusal)) => is_cleared(index) && is_refused(refusal.question, index2),
+        Err(SideRefusal::Target(refusal)) => is_cleared(index) && is_refused(refusal.question, index2),
         Ok(_) => is_cleared(index) && is_cleared(index2),
     }
 }
@@ -105,7 +105,7 @@ fn print_both_starts(rt: &impl Print, index: &[u32], index2: &[u32]) -> io::Resu
 
 fn print_verdict(
     rt: &impl Print,
-    verdict: Result<Verdict, Side>,
+    verdict: Result<Verdict, SideRefusal>,
     index: &[u32],
     index2: &[u32],
 ) -> io::Result<()> {
@@ -118,8 +118,8 @@ fn print_verdict(
             print_difference(rt, difference)?;
             print_both_starts(rt, index, index2)?;
         }
-        Err(Side::Snapshot(refusal)) => print!(rt; "snapshot {refusal}")?,
-        Err(Side::Target(refusal)) => {
+        Err(SideRefusal::Snapshot(refusal)) => print!(rt; "snapshot {refusal}")?,
+        Err(SideRefusal::Target(refusal)) => {
             print!(rt; "target {refusal}")?;
             print_starts(rt, " starts", index)?;
         }

@@ -68,7 +68,7 @@ pub type Verdict = Result<(), Difference>;
 
 // Which of two manifests is refused, the snapshot's or the target's.
 #[derive(Clone, Copy, PartialEq, Eq)]
-pub enum Side {
+pub enum SideRefusal {
     Snapshot(Refusal<u64>),
     Target(Refusal<u64>),
 }

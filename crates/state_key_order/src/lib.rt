@@ -14,13 +14,13 @@ use state_wire::{part, read_number, read_tag, step_of, string};
 
 // Which of two keys is no whole one, with question and position.
 #[derive(Clone, Copy, PartialEq, Eq)]
-pub enum KeyRefused {
+pub enum KeyRefusal {
     Left(Refusal<usize>),
     Right(Refusal<usize>),
 }
 
 // The order of two keys and how many of their bytes agree.
-pub type KeysCompared = Result<Compared, KeyRefused>;
+pub type KeysCompared = Result<Compared, KeyRefusal>;
 
 // Whether a byte string comes before another.
 pub fn precedes(left: &[u8], right: &[u8]) -> bool
@@ -81,8 +81,8 @@ fn compare_walked(
 ) -> KeysCompared
     ensures { result ≡ spans_compared left.now at l right.now from r }
 {
-    let e = l.map_err(KeyRefused::Left)?;
-    let f = r.map_err(KeyRefused::Right)?;
+    let e = l.map_err(KeyRefusal::Left)?;
+    let f = r.map_err(KeyRefusal::Right)?;
     Ok(order::compare(part(left, at, e), part(right, from, f)))
 }
 

@@ -6,8 +6,8 @@ use Rattle.state.specs.Bytes.{AreBytes}
 use Rattle.std.specs.Prelude.{Result, Ok, Err}
 use Rattle.state.specs.declared.Refusal.{Refusal}
 use Rattle.state.specs.declared.Starts.{Starts}
-use Rattle.state.specs.declared.Side.{Side}
-use Rattle.state.specs.declared.Side.TheVariants.{Snapshot, Target}
+use Rattle.state.specs.declared.SideRefusal.{SideRefusal}
+use Rattle.state.specs.declared.SideRefusal.TheVariants.{Snapshot, Target}
 use Rattle.questions.specs.Portability.{target_bound_classes}
 use Rattle.questions.specs.Answers.{Decoded, decode_manifest, decoded_index}
 use Rattle.verdict.specs.Verdict.{Agreement, verdict}
@@ -20,14 +20,14 @@ use Rattle.state_manifest.proofs.Acceptance.{judgment, answer-refused, judged-as
 module _ (s old : List ℕ) (base revision : ℕ) (t old' : List ℕ) (base' revision' : ℕ) (bytes : AreBytes s) (bytes' : AreBytes t)
     {d : Decoded} (is : d ≡ decode_manifest target_bound_classes s base revision old) {new : List ℕ} (left : new ≡ decoded_index target_bound_classes s revision old) where
   -- the answer and the two indexes
-  abbrev pub Says : Result Agreement Side → (first second : List ℕ) → Type 0
+  abbrev pub Says : Result Agreement SideRefusal → (first second : List ℕ) → Type 0
   Says r first second =
       (r ≡ compare_manifests target_bound_classes s base revision old t base' revision' old')
       × ((first ≡ decoded_index target_bound_classes s revision old)
       × ((second ≡ target_index target_bound_classes s base revision old t base' revision' old')
       × VerdictDemand target_bound_classes s base revision old t base' revision' old' r))
 
-  demanded : {r : Result Agreement Side} → r ≡ compare_manifests target_bound_classes s base revision old t base' revision' old' → VerdictDemand target_bound_classes s base revision old t base' revision' old' r
+  demanded : {r : Result Agreement SideRefusal} → r ≡ compare_manifests target_bound_classes s base revision old t base' revision' old' → VerdictDemand target_bound_classes s base revision old t base' revision' old' r
   demanded e = verdict-right target_bound_classes s base revision old t base' revision' old' bytes bytes' e
 
   -- the snapshot's was refused

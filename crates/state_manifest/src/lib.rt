@@ -20,7 +20,7 @@ ghost use Rattle.state_manifest.specs.Accepted.{Accepted};
 
 use compare::compare_sections;
 use manifest::decode_manifest;
-use state::{Question, Refusal, Side, Units, Verdict};
+use state::{Question, Refusal, SideRefusal, Units, Verdict};
 use state_index::keys::{block_key_end, count_at, number_at};
 use state_index::{ahead, clear, word_at};
 
@@ -87,7 +87,7 @@ pub fn compare_manifests(
     base2: u64,
     revision2: u32,
     index2: &mut [u32],
-) -> Result<Verdict, Side>
+) -> Result<Verdict, SideRefusal>
     ensures value { result ≡ compare_manifests target_bound_classes snapshot.now base revision index.old target.now base2 revision2 index2.old }
     ensures index_after { index.new ≡ decoded_index target_bound_classes snapshot.now revision index.old }
     ensures index2_after { index2.new ≡ target_index target_bound_classes snapshot.now base revision index.old target.now base2 revision2 index2.old }
@@ -95,11 +95,11 @@ pub fn compare_manifests(
 {
     let starts = match decode_manifest(snapshot, base, revision, index) {
         Ok(starts) => starts,
-        Err(refusal) => return Err(Side::Snapshot(refusal)),
+        Err(refusal) => return Err(SideRefusal::Snapshot(refusal)),
     };
     let starts2 = match decode_manifest(target, base2, revision2, index2) {
         Ok(starts) => starts,
-        Err(refusal) => return Err(Side::Target(refusal)),
+        Err(refusal) => return Err(SideRefusal::Target(refusal)),
     };
     Ok(compare_sections(snapshot, target, starts, starts2))
 }

@@ -4,8 +4,8 @@ use Prim.Native.String.{String}
 use mathlib.Core.List.{List, [], ◌∷◌}
 use Rattle.std.specs.Prelude.{Result, Ok, Err}
 use Rattle.state.specs.Outcome.{refusal}
-use Rattle.state.specs.declared.Side.{Side}
-use Rattle.state.specs.declared.Side.TheVariants.{Snapshot, Target}
+use Rattle.state.specs.declared.SideRefusal.{SideRefusal}
+use Rattle.state.specs.declared.SideRefusal.TheVariants.{Snapshot, Target}
 use Rattle.questions.proofs.Cases.{hex}
 use Rattle.verdict.specs.Verdict.{Agreement, compatible, differs}
 
@@ -19,12 +19,12 @@ pub record Given : Type 0 where
 pub record Pair : Type 0 where
   pub snapshot : Given
   pub target : Given
-  pub answer : Result Agreement Side
+  pub answer : Result Agreement SideRefusal
 
-abbrev pub snapshot_refused : (question offset : ℕ) → Result Agreement Side
+abbrev pub snapshot_refused : (question offset : ℕ) → Result Agreement SideRefusal
 snapshot_refused q o = Err (Snapshot (refusal q o))
 
-abbrev pub target_refused : (question offset : ℕ) → Result Agreement Side
+abbrev pub target_refused : (question offset : ℕ) → Result Agreement SideRefusal
 target_refused q o = Err (Target (refusal q o))
 
 abbrev pub given_at : (base revision : ℕ) → List ℕ → Given

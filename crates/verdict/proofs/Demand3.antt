@@ -10,7 +10,7 @@ use Rattle.state.specs.Bytes.{AreBytes}
 use Rattle.state.specs.Outcome.{got}
 use Rattle.state.specs.Outcome.{refuses}
 use Rattle.state.specs.declared.Refusal.{Refusal}
-use Rattle.state.specs.declared.Side.{Side}
+use Rattle.state.specs.declared.SideRefusal.{SideRefusal}
 use Rattle.state.specs.declared.Units.{Units}
 use Rattle.format.specs.Format.{El}
 use Rattle.format.specs.Manifest.{manifest}
@@ -27,7 +27,7 @@ use Rattle.verdict.proofs.Words.{words-held}
 -- revision and index each
 module _ (bound : List (List ℕ)) (s : List ℕ) (base revision : ℕ) (index : List ℕ) (t : List ℕ) (base' revision' : ℕ) (index' : List ℕ) (bytes : AreBytes s) (bytes' : AreBytes t)
     -- r is what `compare_manifests` answers
-    {r : Result Agreement Side} (answered : r ≡ compare_manifests bound s base revision index t base' revision' index') where
+    {r : Result Agreement SideRefusal} (answered : r ≡ compare_manifests bound s base revision index t base' revision' index') where
   pub verdict-right : IsOk (decode_manifest bound s base revision index) → IsOk (decode_manifest bound t base' revision' index') → IsOkAnd r (VerdictRight s t)
   unfolding compare_manifests
   verdict-right snapshot target =

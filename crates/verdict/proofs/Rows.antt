@@ -4,7 +4,7 @@ use mathlib.Core.Path.{◌≡◌, refl}
 use mathlib.Core.List.{List, [], ◌∷◌, ◌++◌}
 use lib.ListN.{length, replicate}
 use Rattle.std.specs.Prelude.{Result, Ok}
-use Rattle.state.specs.declared.Side.{Side}
+use Rattle.state.specs.declared.SideRefusal.{SideRefusal}
 use Rattle.order.specs.Lex.{agreeing}
 use Rattle.format.specs.Format.{scan}
 use Rattle.format.specs.Admits.{All}
@@ -23,7 +23,7 @@ use Rattle.verdict.proofs.Cases.{Given, Pair, snapshot_refused, target_refused, 
 abbrev P : List ℕ
 P = hex "00 . 0100000000..01010000000100000000000000... . . 0100000000. . . 0100000000...0100000000000000 . . ."
 
-abbrev pair_at : Given → Given → Result Agreement Side → Pair
+abbrev pair_at : Given → Given → Result Agreement SideRefusal → Pair
 pair_at s t r = record { snapshot = s; target = t; answer = r }
 
 abbrev short : Given → Given
@@ -53,7 +53,7 @@ abbrev index_for : Given → List ℕ
 index_for s = replicate (index_words (length s.bytes) - s.lacking) 0
 
 -- what a call answers
-abbrev answer_to : Pair → Result Agreement Side
+abbrev answer_to : Pair → Result Agreement SideRefusal
 answer_to r =
     let s = r.snapshot in
     let t = r.target in

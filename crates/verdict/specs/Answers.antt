@@ -3,15 +3,15 @@
 -- is left as `decode_manifest` leaves it (`decoded_index`), whatever the target comes to.
 use Rattle.std.specs.Prelude.{ℕ, Result, Ok, Err, List, length}
 use Rattle.state.specs.Outcome.{Outcome, got, refused, refusal}
-use Rattle.state.specs.declared.Side.{Side}
-use Rattle.state.specs.declared.Side.TheVariants.{Snapshot, Target}
+use Rattle.state.specs.declared.SideRefusal.{SideRefusal}
+use Rattle.state.specs.declared.SideRefusal.TheVariants.{Snapshot, Target}
 use Rattle.format.specs.Format.{El}
 use Rattle.format.specs.Manifest.{manifest}
 use Rattle.questions.specs.Answers.{judge, outside, decoded_index}
 use Rattle.verdict.specs.Verdict.{Agreement, verdict}
 
 -- of what both come to, each with its base
-abbrev pub verdict_of : (base base' : ℕ) → (snapshot target : Outcome (El manifest)) → Result Agreement Side
+abbrev pub verdict_of : (base base' : ℕ) → (snapshot target : Outcome (El manifest)) → Result Agreement SideRefusal
 verdict_of base base' (refused q p) o = Err (Snapshot (outside base (refusal q p)))
 verdict_of base base' (got v n) (refused q p) = Err (Target (outside base' (refusal q p)))
 verdict_of base base' (got v n) (got w m) = Ok (verdict v w)
@@ -23,7 +23,7 @@ unless_refused (got v n) l l' = l'
 
 -- the answer of `compare_manifests`, and the target's index at its end
 module _ (bound : List (List ℕ)) (s : List ℕ) (base revision : ℕ) (index : List ℕ) (t : List ℕ) (base' revision' : ℕ) (index' : List ℕ) where
-  unfoldable pub compare_manifests : Result Agreement Side
+  unfoldable pub compare_manifests : Result Agreement SideRefusal
   compare_manifests = verdict_of base base' (judge bound revision s (length index)) (judge bound revision' t (length index'))
 
   unfoldable pub target_index : List ℕ

@@ -4,7 +4,7 @@ use Rattle.std.specs.Prelude.{ℕ, ◌+◌, ◌≤◌, ◌<◌, ◌≡◌, ◌�
 use Rattle.state.specs.Outcome.{got}
 use Rattle.state.specs.declared.Difference.{Difference}
 use Rattle.state.specs.declared.Refusal.{Refusal}
-use Rattle.state.specs.declared.Side.{Side}
+use Rattle.state.specs.declared.SideRefusal.{SideRefusal}
 use Rattle.state.specs.declared.Units.{Units}
 use Rattle.state_wire.specs.Fields.{max_snapshot_bytes}
 use Rattle.format.specs.Format.{El}
@@ -52,7 +52,7 @@ pub record VerdictRight (s t : List ℕ) (v : Agreement) : Type 0 where
 
 -- what `compare_manifests` promises of its answer: "For every snapshot's manifest and every target's, each accepted, whatever their bases and
 -- revisions"
-abbrev pub VerdictDemand : (bound : List (List ℕ)) → (s : List ℕ) (base revision : ℕ) (index : List ℕ) → (t : List ℕ) (base' revision' : ℕ) (index' : List ℕ) → Result Agreement Side → Type 0
+abbrev pub VerdictDemand : (bound : List (List ℕ)) → (s : List ℕ) (base revision : ℕ) (index : List ℕ) → (t : List ℕ) (base' revision' : ℕ) (index' : List ℕ) → Result Agreement SideRefusal → Type 0
 VerdictDemand bound s base revision index t base' revision' index' r =
     IsOk (decode_manifest bound s base revision index) → IsOk (decode_manifest bound t base' revision' index') → IsOkAnd r (VerdictRight s t)
 
