@@ -7,7 +7,7 @@ pub mod lists;
 mod tables;
 pub mod values;
 
-ghost use Rattle.std.specs.Prelude.{◌≡◌, ◌++◌};
+ghost use Rattle.std.specs.Prelude.{◌++◌};
 ghost use Rattle.state_wire.specs.Fields.{max_snapshot_bytes};
 ghost use Rattle.format.specs.Format.{scan};
 ghost use Rattle.format.specs.Manifest.{manifest};

@@ -5,13 +5,12 @@ ghost use Rattle.std.specs.Prelude.{ℕ, ◌≡◌, map, ◌+◌, ◌-◌, ◌^�
 ghost use Rattle.std.proofs.lemmas.List.Edits.{sets};
 ghost use Rattle.state.specs.Bytes.{span};
 ghost use Rattle.state.specs.Outcome.{said};
-ghost use Rattle.format.specs.Lists.{same};
 ghost use Rattle.format.specs.Keys.{block_key};
-ghost use Rattle.format.specs.Manifest.{blocks, state_slots};
+ghost use Rattle.format.specs.Manifest.{blocks};
 ghost use Rattle.format.specs.Fields.{state_len};
 ghost use Rattle.format.specs.Admits.{All};
-ghost use Rattle.format.specs.Places.{past, key_at};
-ghost use Rattle.questions.specs.Sets.{first, ◌unless◌};
+ghost use Rattle.format.specs.Places.{past};
+ghost use Rattle.questions.specs.Sets.{first};
 ghost use Rattle.questions.specs.Declarations.{is_stateful, declarations};
 ghost use Rattle.questions.specs.Slots.{words, by_offset, join_from, slots};
 ghost use Rattle.state_index.specs.Sort.{Kept};

@@ -1,7 +1,7 @@
 // Fields of the wire, read where they stand: little-endian numbers, tags, counts and strings.
 #![tactic(auto, using(crate::proofs::Fields::within), unfolding(crate::specs::Fields::read_span, crate::specs::Fields::read_number, crate::specs::Fields::read_tag, crate::specs::Fields::bounded_count, crate::specs::Fields::read_text))]
 
-ghost use Rattle.std.specs.Prelude.{◌≡◌, ◌+◌, ◌*◌, ◌-◌, ◌≤◌, length, leb};
+ghost use Rattle.std.specs.Prelude.{◌≡◌, ◌+◌, ◌-◌, ◌≤◌, length, leb};
 ghost use Rattle.state.specs.Bytes.{span, number_of};
 ghost use Rattle.state.specs.Outcome.{step_of, field_of, step_of_field, offset_of};
 ghost use Rattle.state_wire.specs.Fields.{read_span, read_number, read_tag, bounded_count, read_text, text_of, max_snapshot_bytes};

@@ -1,6 +1,5 @@
 use mathlib.Core.Path.{◌∙◌, sym, ap}
 use Rattle.state.specs.Outcome.{said}
-use Rattle.state_index.specs.declared.Table.{Table}
 use Rattle.state_codec.proofs.Asking.{listed, forward, values-miscounted, values-answered}
 use Rattle.state_codec.proofs.values.validate_values.Goals as goal
 
