@@ -144,7 +144,7 @@ def tail_row(question, what, m, t, cut=0, revision=2):
     assert tuple(map(spelled, digits)) == (b, u), what
     told = ask(b, u, revision)
     assert told[:1] == ["accepted"] if question == 0 else told[:2] == ["refused", str(question)], (what, told)
-    answer = "(Refused %s %s)" % (told[1], told[2]) if question else "Accepted"
+    answer = "(refuses %s %s)" % (told[1], told[2]) if question else "accepts"
     line = 'row "%s" "%s" %s' % (*digits, answer)
     return "    -- %s\n    ∷ %s\n" % (what, line if revision == 2 else "revision1 (%s)" % line)
 
