@@ -58,7 +58,8 @@ fn are_left(verdict: Result<Verdict, SideRefusal>, index: &[u32], index2: &[u32]
     match verdict {
         Err(SideRefusal::Snapshot(refusal)) => is_refused(refusal.question, index)
             && are_all(index2, FILL),
-        Err(SideRefusal::Target(refusal)) => is_cleared(index) && is_refused(refusal.question, index2),
+        Err(SideRefusal::Target(refusal)) => is_cleared(index)
+            && is_refused(refusal.question, index2),
         Ok(_) => is_cleared(index) && is_cleared(index2),
     }
 }

@@ -58,9 +58,7 @@ pub(crate) fn has_key(
     requires { table.to ≤ length index.now }
     ensures { result ≡ true → (table.from ≤ w) × (w < table.to) × (key_at (numbered section) s.now (get_or index.now w 0) ≡ key.now) }
 {
-    table.from <= w
-        && w < table.to
-        && same_bytes(key_part(s, section, word_at(index, w)), key)
+    table.from <= w && w < table.to && same_bytes(key_part(s, section, word_at(index, w)), key)
 }
 
 // A word of the table that the hints name and whose entry has the key.
