@@ -51,6 +51,7 @@ pub fn position(s: &[u8], at: usize) -> usize {
 
 // The bytes of a HEX, put at the start of `out`, and how many there are.
 pub fn bytes(s: &[u8], at: usize, out: &mut [u8]) -> usize {
+    // The place of the next byte: it moves on only where there is room.
     let mut n = 0;
     for pair in rest(s, at).chunks_exact(2) {
         let Some(high) = digit(pair[0]) else {

@@ -73,6 +73,7 @@ fn sift(s: &[u8], w: &mut [u32], n: usize) -> usize
     let first = w[0];
     w[n..].fill(first);
     let own = slot_at(s, m, first);
+    // The place of the next word that is left: it moves on only where one is.
     let mut k = 0;
     for i in 1..n {
         let x = w[i];

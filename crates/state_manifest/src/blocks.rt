@@ -106,6 +106,7 @@ pub(crate) fn compare_blocks(s: &[u8], t: &[u8], at: &mut Sides) -> Verdict
     ensures { result ≡ (listwise 3 blocks block_verdict).compare (value_at (counted blocks) s.now at.old.snapshot) (value_at (counted blocks) t.now at.old.target) }
 {
     let counts = enter(s, t, at);
+    // Counted by hand: the form that document 01 names is left with the verdict, and a `for` has no value.
     let mut i = 0;
     'blocks: loop {
         if i == counts.shorter() {

@@ -21,6 +21,7 @@ fn read_names(s: &[u8], at: usize, count: u64, index: &mut [u32], word: usize) -
     requires { Room s.now index.old at word }
     ensures { Fills result (scan_entries max_snapshot_bytes free text done s.now count at []) (starts max_snapshot_bytes (text then done) s.now count at) word index.old index.new }
 {
+    // `w` goes on with `p`: the count is the wire's u64, and a cast of it at each word is no plainer.
     let mut p = at;
     let mut w = word;
     for _ in 0..count {
@@ -83,7 +84,6 @@ fn read_key(s: &[u8], section: u8, at: usize) -> Step
     ensures { result ≡ scan max_snapshot_bytes (numbered section).key s.now at }
 {
     match section {
-        ..=Section::ENUMS => string(s, at),
         Section::BLOCKS | Section::SCHEDULE | Section::STATE_SLOTS => read_block_key(s, at),
         Section::CONNECTORS
         | Section::CONNECTOR_ORDER
@@ -125,6 +125,7 @@ pub fn read_list(s: &[u8], section: u8, at: usize, index: &mut [u32], word: usiz
         return step_of(count);
     };
     let mut last = None;
+    // As in `read_names`, `w` goes on with `p`.
     let mut p = first;
     let mut w = word;
     for _ in 0..n {

@@ -3,7 +3,8 @@ ghost use Rattle.std.specs.Prelude.{◌≡◌, ◌∷◌, ◌+◌, ◌<◌};
 ghost use Rattle.text.specs.Valid.{lead, char_width};
 ghost use Rattle.text.specs.Blocks.{second_from, second_to, IsWidth};
 
-// RFC 3629, section 4: the second octet by the first, from one number to before another. None follows C0, C1, or F5 and above.
+// RFC 3629, section 4: the second octet by the first, from one number to before another. None follows C0, C1, or F5 and above. Two
+// functions: a range for each first octet says each bound again at every row.
 fn second_from(a: u8) -> u8
     ensures { result ≡ second_from a }
 {

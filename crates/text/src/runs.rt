@@ -66,7 +66,7 @@ fn clean_blocks(s: &[u8], from: usize, n: usize) -> usize
     requires { (0 < n) × (3 ≤ from) × (from ≤ length s.now) }
     ensures { CleanUpTo s.now from result }
 {
-    // Steps by n.
+    // Steps by n and stops at ASCII: two ways out that chunks would need a position for.
     let mut at = from;
     while s.len() - at >= n {
         if broken(s, at, n) {
