@@ -8,8 +8,8 @@ use lib.ListN.{length, get_or, get_or-eq_default}
 use lib.Dec.{eqb}
 use borrow.Author.Tests.{eq-eqb, ne_eqb}
 use Rattle.format.specs.Lists.{same, is_in}
-use Rattle.format.specs.Format.{Rule, Fmt, El, done, number, tag, text, ◌then◌, list, choice}
-use Rattle.format.specs.Manifest.{optional, value_type, value, enums}
+use Rattle.format.specs.Format.{free, Fmt, El, done, number, tag, text, ◌then◌, list, choice}
+use Rattle.format.specs.Manifest.{optional, value_type, value, enums, params}
 use Rattle.format.specs.Fields.{Entry, type_tag, type_class, value_tag, value_class}
 use Rattle.format.specs.Places.{number_at, skip, past}
 use Rattle.format.specs.Values.{value_at}
@@ -96,7 +96,7 @@ choice-past : (fs : List Fmt) (s : List ℕ) (at : ℕ) → past (get_or fs (get
 unfolding past
 choice-past fs s at = refl
 
-pub done-past : (s : List ℕ) (at : ℕ) → at ≡ past done s at
+done-past : (s : List ℕ) (at : ℕ) → at ≡ past done s at
 unfolding past
 done-past s at = refl
 
@@ -140,22 +140,31 @@ module _ (s : List ℕ) (at : ℕ) {t first : ℕ} (et : t ≡ get_or s at 0) (e
   optional-none f n = chosen (done ∷ f ∷ []) (left_out f t n) (done-past s first)
 
 -- ---- lists, entry by entry
-module _ (k r : Fmt) (s : List ℕ) where
+module _ (e : Fmt) (s : List ℕ) where
   -- where the entries that are left end
   abbrev pub entries_end : (left p : ℕ) → ℕ
-  entries_end left p = skip (past k s) (past r s) left p
+  entries_end left p = skip (past e s) (past done s) left p
 
-  pub list-start : (w least : ℕ) (u : Rule) (at : ℕ) {n p : ℕ} → n ≡ number_at w s at → p ≡ min (at + w) (length s) → entries_end n p ≡ past (list w least u k r) s at
+  pub list-start : (at : ℕ) {n p : ℕ} → n ≡ number_at 4 s at → p ≡ min (at + 4) (length s) → entries_end (n - 0) p ≡ past (list 4 0 free e done) s at
   unfolding past
-  list-start w least u at i j = rw (i, j)
+  list-start at {n} i j = let d : n - 0 ≡ n = omega arith in rw (d, i, j)
 
-  pub list-next : (left p : ℕ) → 0 < left → {m e z : ℕ} → m ≡ past k s p → e ≡ past r s m → entries_end left p ≡ z → entries_end (left - 1) e ≡ z
-  list-next zero p l i j h = absurd (omega arith)
-  list-next (suc n) p l i j h = let d : suc n - 1 ≡ n = omega arith in rw (d, j, i) h
+  pub list-next : (n i p : ℕ) → i < n → {m z : ℕ} → m ≡ past e s p → entries_end (n - i) p ≡ z → entries_end (n - (i + 1)) m ≡ z
+  unfolding past
+  list-next n i p l j h = let d : n - i ≡ suc (n - (i + 1)) = omega arith in rw j (rw d at h)
 
-  pub list-end : (left : ℕ) → left ≤ 0 → {p z : ℕ} → entries_end left p ≡ z → p ≡ z
-  list-end zero l h = h
-  list-end (suc n) l h = absurd (omega arith)
+  pub list-end : (n i : ℕ) → n ≤ i → {p z : ℕ} → entries_end (n - i) p ≡ z → p ≡ z
+  list-end n i l h = let d : n - i ≡ 0 = omega arith in rw d at h
+
+-- a parameter is a name and a value
+skip-parts : (s : List ℕ) (n p : ℕ) → skip (past (text then value) s) (past done s) n p ≡ skip (past text s) (past value s) n p
+unfolding past
+skip-parts s zero p = refl
+skip-parts s (suc n) p = skip-parts s n (past value s (past text s p))
+
+pub params-past : (s : List ℕ) (at : ℕ) → past (list 4 0 free (text then value) done) s at ≡ past params s at
+unfolding past params
+params-past s at = skip-parts s (number_at 4 s at) (min (at + 4) (length s))
 
 -- ---- one type or two
 type-typed : (s : List ℕ) (at : ℕ) → value_at value_type s at ≡ typed s (get_or s at 0) (min (at + 1) (length s))
