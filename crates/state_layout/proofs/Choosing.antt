@@ -105,39 +105,39 @@ module _ (s : List ℕ) (at : ℕ) {t first : ℕ} (et : t ≡ get_or s at 0) (e
   chosen : (fs : List Fmt) {f : Fmt} → get_or fs t done ≡ f → {e : ℕ} → e ≡ past f s first → e ≡ past (choice fs) s at
   chosen fs i h = h ∙ rw (← i, ef, et) (choice-past fs s at)
 
-  pub type-enum : t ≡ 4 → {e : ℕ} → e ≡ past text s first → e ≡ past value_type s at
+  pub type_enum : t ≡ 4 → {e : ℕ} → e ≡ past text s first → e ≡ past value_type s at
   unfolding value_type
-  type-enum z h = chosen types (rw z) h
+  type_enum z h = chosen types (rw z) h
 
-  pub type-other : (t ≡ 4 → ⊥) → first ≡ past value_type s at
+  pub type_other : (t ≡ 4 → ⊥) → first ≡ past value_type s at
   unfolding value_type
-  type-other n = chosen types (plain t n) (done-past s first)
+  type_other n = chosen types (plain t n) (done-past s first)
 
-  pub value-number : t < 2 → {e : ℕ} → e ≡ min (first + 8) (length s) → e ≡ past value s at
+  pub value_number : t < 2 → {e : ℕ} → e ≡ min (first + 8) (length s) → e ≡ past value s at
   unfolding value past
-  value-number l h = chosen values (value_low t l) h
+  value_number l h = chosen values (value_low t l) h
 
-  pub value-boolean : t ≡ 2 → {e : ℕ} → e ≡ min (first + 1) (length s) → e ≡ past value s at
+  pub value_boolean : t ≡ 2 → {e : ℕ} → e ≡ min (first + 1) (length s) → e ≡ past value s at
   unfolding value past
-  value-boolean z h = chosen values {f = tag 2} (rw z) h
+  value_boolean z h = chosen values {f = tag 2} (rw z) h
 
-  pub value-string : t ≡ 3 → {e : ℕ} → e ≡ past text s first → e ≡ past value s at
+  pub value_string : t ≡ 3 → {e : ℕ} → e ≡ past text s first → e ≡ past value s at
   unfolding value
-  value-string z h = chosen values (rw z) h
+  value_string z h = chosen values (rw z) h
 
-  pub value-enum : t ≡ 4 → {m e : ℕ} → m ≡ past text s first → e ≡ min (m + 4) (length s) → e ≡ past value s at
+  pub value_enum : t ≡ 4 → {m e : ℕ} → m ≡ past text s first → e ≡ min (m + 4) (length s) → e ≡ past value s at
   unfolding value past
-  value-enum z i h = chosen values {f = text then number 4} (rw z) (h ∙ rw i)
+  value_enum z i h = chosen values {f = text then number 4} (rw z) (h ∙ rw i)
 
-  pub value-other : 4 < t → first ≡ past value s at
+  pub value_other : 4 < t → first ≡ past value s at
   unfolding value
-  value-other h = chosen values (get_or-eq_default {A = Fmt} values done {n = t} h) (done-past s first)
+  value_other h = chosen values (get_or-eq_default {A = Fmt} values done {n = t} h) (done-past s first)
 
-  pub optional-given : (f : Fmt) → t ≡ 1 → {e : ℕ} → e ≡ past f s first → e ≡ past (optional f) s at
-  optional-given f z h = chosen (done ∷ f ∷ []) (rw z) h
+  pub optional_given : (f : Fmt) → t ≡ 1 → {e : ℕ} → e ≡ past f s first → e ≡ past (optional f) s at
+  optional_given f z h = chosen (done ∷ f ∷ []) (rw z) h
 
-  pub optional-none : (f : Fmt) → (t ≡ 1 → ⊥) → first ≡ past (optional f) s at
-  optional-none f n = chosen (done ∷ f ∷ []) (left_out f t n) (done-past s first)
+  pub optional_none : (f : Fmt) → (t ≡ 1 → ⊥) → first ≡ past (optional f) s at
+  optional_none f n = chosen (done ∷ f ∷ []) (left_out f t n) (done-past s first)
 
 -- ---- lists, entry by entry
 module _ (e : Fmt) (s : List ℕ) where
@@ -145,16 +145,16 @@ module _ (e : Fmt) (s : List ℕ) where
   abbrev pub entries_end : (left p : ℕ) → ℕ
   entries_end left p = skip (past e s) (past done s) left p
 
-  pub list-start : (at : ℕ) {n p : ℕ} → n ≡ number_at 4 s at → p ≡ min (at + 4) (length s) → entries_end (n - 0) p ≡ past (list 4 0 free e done) s at
+  pub list_start : (at : ℕ) {n p : ℕ} → n ≡ number_at 4 s at → p ≡ min (at + 4) (length s) → entries_end (n - 0) p ≡ past (list 4 0 free e done) s at
   unfolding past
-  list-start at {n} i j = let d : n - 0 ≡ n = omega arith in rw (d, i, j)
+  list_start at {n} i j = let d : n - 0 ≡ n = omega arith in rw (d, i, j)
 
-  pub list-next : (n i p : ℕ) → i < n → {m z : ℕ} → m ≡ past e s p → entries_end (n - i) p ≡ z → entries_end (n - (i + 1)) m ≡ z
+  pub list_next : (n i p : ℕ) → i < n → {m z : ℕ} → m ≡ past e s p → entries_end (n - i) p ≡ z → entries_end (n - (i + 1)) m ≡ z
   unfolding past
-  list-next n i p l j h = let d : n - i ≡ suc (n - (i + 1)) = omega arith in rw j (rw d at h)
+  list_next n i p l j h = let d : n - i ≡ suc (n - (i + 1)) = omega arith in rw j (rw d at h)
 
-  pub list-end : (n i : ℕ) → n ≤ i → {p z : ℕ} → entries_end (n - i) p ≡ z → p ≡ z
-  list-end n i l h = let d : n - i ≡ 0 = omega arith in rw d at h
+  pub list_end : (n i : ℕ) → n ≤ i → {p z : ℕ} → entries_end (n - i) p ≡ z → p ≡ z
+  list_end n i l h = let d : n - i ≡ 0 = omega arith in rw d at h
 
 -- a parameter is a name and a value
 skip-parts : (s : List ℕ) (n p : ℕ) → skip (past (text then value) s) (past done s) n p ≡ skip (past text s) (past value s) n p
@@ -162,9 +162,9 @@ unfolding past
 skip-parts s zero p = refl
 skip-parts s (suc n) p = skip-parts s n (past value s (past text s p))
 
-pub params-past : (s : List ℕ) (at : ℕ) → past (list 4 0 free (text then value) done) s at ≡ past params s at
+pub params_past : (s : List ℕ) (at : ℕ) → past (list 4 0 free (text then value) done) s at ≡ past params s at
 unfolding past params
-params-past s at = skip-parts s (number_at 4 s at) (min (at + 4) (length s))
+params_past s at = skip-parts s (number_at 4 s at) (min (at + 4) (length s))
 
 -- ---- one type or two
 type-typed : (s : List ℕ) (at : ℕ) → value_at value_type s at ≡ typed s (get_or s at 0) (min (at + 1) (length s))

@@ -9,6 +9,7 @@ use state::WireValueType;
 use state_index::keys::{block_key_end, byte_at, connector_key_end, count_at};
 use state_index::{ahead, text_end};
 
+#[tactic(auto, using(crate::proofs::Choosing::type_enum, crate::proofs::Choosing::type_other))]
 pub fn type_end(s: &[u8], at: usize) -> usize
     ensures { result ≡ past value_type s.now at }
 {
@@ -19,6 +20,7 @@ pub fn type_end(s: &[u8], at: usize) -> usize
     first
 }
 
+#[tactic(auto, using(crate::proofs::Choosing::value_number, crate::proofs::Choosing::value_boolean, crate::proofs::Choosing::value_string, crate::proofs::Choosing::value_enum, crate::proofs::Choosing::value_other))]
 pub fn value_end(s: &[u8], at: usize) -> usize
     ensures { result ≡ past value s.now at }
 {
@@ -33,6 +35,7 @@ pub fn value_end(s: &[u8], at: usize) -> usize
 }
 
 // Of what may be left out: a byte that is 1 where it is there.
+#[tactic(auto, using(crate::proofs::Choosing::optional_given, crate::proofs::Choosing::optional_none))]
 fn optional_end<F: Fn(&[u8], usize) -> usize>(s: &[u8], at: usize, given_end: F) -> usize
     ghost given: { Fmt }
     requires callable { F.IsAlwaysCallable given_end }
@@ -61,6 +64,7 @@ pub fn optional_text_end(s: &[u8], at: usize) -> usize
 }
 
 // Of a counted list, entry by entry.
+#[tactic(auto, using(crate::proofs::Choosing::list_start, crate::proofs::Choosing::list_next, crate::proofs::Choosing::list_end))]
 fn list_end<F: Fn(&[u8], usize) -> usize>(s: &[u8], at: usize, entry_end: F) -> usize
     ghost entry: { Fmt }
     requires callable { F.IsAlwaysCallable entry_end }
@@ -74,6 +78,7 @@ fn list_end<F: Fn(&[u8], usize) -> usize>(s: &[u8], at: usize, entry_end: F) -> 
     p
 }
 
+#[tactic(auto, unfolding(format::specs::Places::past, format::specs::Manifest::members))]
 pub fn members_end(s: &[u8], at: usize) -> usize
     ensures { result ≡ past members s.now at }
 {
@@ -87,12 +92,14 @@ fn parameter_end(s: &[u8], at: usize) -> usize
     value_end(s, text_end(s, at))
 }
 
+#[tactic(auto, using(crate::proofs::Choosing::params_past))]
 pub fn parameters_end(s: &[u8], at: usize) -> usize
     ensures { result ≡ past params s.now at }
 {
     list_end(s, at, parameter_end)
 }
 
+#[tactic(auto, unfolding(format::specs::Places::past, format::specs::Manifest::connector_keys))]
 pub fn connector_keys_end(s: &[u8], at: usize) -> usize
     ensures { result ≡ past connector_keys s.now at }
 {
@@ -107,6 +114,7 @@ pub fn block_kind_at(s: &[u8], at: usize) -> usize
 }
 
 // Where the parameters of the block at a position stand.
+#[tactic(auto, unfolding(format::specs::Places::past, format::specs::Manifest::block_head))]
 pub fn parameters_at(s: &[u8], at: usize) -> usize
     ensures { result ≡ past block_head s.now (past block_key s.now at) }
 {
@@ -114,6 +122,7 @@ pub fn parameters_at(s: &[u8], at: usize) -> usize
 }
 
 // Where the value type of the connector at a position stands.
+#[tactic(auto, unfolding(format::specs::Places::past))]
 pub fn connector_type_at(s: &[u8], at: usize) -> usize
     ensures { result ≡ past (number 4) s.now (past text s.now (past connector_key s.now at)) }
 {
@@ -121,12 +130,14 @@ pub fn connector_type_at(s: &[u8], at: usize) -> usize
 }
 
 // Entries of sections 2, 4 and 12.
+#[tactic(auto, unfolding(format::specs::Places::past))]
 pub fn class_end(s: &[u8], at: usize) -> usize
     ensures { result ≡ past (entry enums) s.now at }
 {
     members_end(s, text_end(s, at))
 }
 
+#[tactic(auto, unfolding(format::specs::Places::past, format::specs::Manifest::connector_rest))]
 pub fn connector_end(s: &[u8], at: usize) -> usize
     ensures { result ≡ past (entry connectors) s.now at }
 {
@@ -134,6 +145,7 @@ pub fn connector_end(s: &[u8], at: usize) -> usize
     optional_text_end(s, optional_text_end(s, unit))
 }
 
+#[tactic(auto, unfolding(format::specs::Places::past, format::specs::Manifest::input_rest))]
 pub fn definition_end(s: &[u8], at: usize) -> usize
     ensures { result ≡ past (entry input_definitions) s.now at }
 {

@@ -1,4 +1,3 @@
-use Rattle.format.specs.Format.{text}
 use Rattle.format.specs.Manifest.{value}
 use Rattle.state_layout.proofs.ends.bound_end.Given as goal
 
