@@ -1,4 +1,6 @@
 // Where the parts of a manifest end, by their tags and lengths alone, whatever the bytes are.
+#![tactic(auto, unfolding(format::specs::Places::past, format::specs::Manifest::members, format::specs::Manifest::connector_keys, format::specs::Manifest::block_head, format::specs::Manifest::connector_rest, format::specs::Manifest::input_rest))]
+
 ghost use Rattle.std.specs.Prelude.{◌≡◌};
 ghost use Rattle.format.specs.Format.{Fmt, done, free, list, text, number, ◌then◌};
 ghost use Rattle.format.specs.Keys.{block_key, connector_key};
@@ -78,14 +80,12 @@ fn list_end<F: Fn(&[u8], usize) -> usize>(s: &[u8], at: usize, entry_end: F) -> 
     p
 }
 
-#[tactic(auto, unfolding(format::specs::Places::past, format::specs::Manifest::members))]
 pub fn members_end(s: &[u8], at: usize) -> usize
     ensures { result ≡ past members s.now at }
 {
     list_end(s, at, text_end)
 }
 
-#[tactic(auto, unfolding(format::specs::Places::past))]
 fn parameter_end(s: &[u8], at: usize) -> usize
     ensures { result ≡ past (text then value) s.now at }
 {
@@ -99,7 +99,6 @@ pub fn parameters_end(s: &[u8], at: usize) -> usize
     list_end(s, at, parameter_end)
 }
 
-#[tactic(auto, unfolding(format::specs::Places::past, format::specs::Manifest::connector_keys))]
 pub fn connector_keys_end(s: &[u8], at: usize) -> usize
     ensures { result ≡ past connector_keys s.now at }
 {
@@ -114,7 +113,6 @@ pub fn block_kind_at(s: &[u8], at: usize) -> usize
 }
 
 // Where the parameters of the block at a position stand.
-#[tactic(auto, unfolding(format::specs::Places::past, format::specs::Manifest::block_head))]
 pub fn parameters_at(s: &[u8], at: usize) -> usize
     ensures { result ≡ past block_head s.now (past block_key s.now at) }
 {
@@ -122,7 +120,6 @@ pub fn parameters_at(s: &[u8], at: usize) -> usize
 }
 
 // Where the value type of the connector at a position stands.
-#[tactic(auto, unfolding(format::specs::Places::past))]
 pub fn connector_type_at(s: &[u8], at: usize) -> usize
     ensures { result ≡ past (number 4) s.now (past text s.now (past connector_key s.now at)) }
 {
@@ -130,14 +127,12 @@ pub fn connector_type_at(s: &[u8], at: usize) -> usize
 }
 
 // Entries of sections 2, 4 and 12.
-#[tactic(auto, unfolding(format::specs::Places::past))]
 pub fn class_end(s: &[u8], at: usize) -> usize
     ensures { result ≡ past (entry enums) s.now at }
 {
     members_end(s, text_end(s, at))
 }
 
-#[tactic(auto, unfolding(format::specs::Places::past, format::specs::Manifest::connector_rest))]
 pub fn connector_end(s: &[u8], at: usize) -> usize
     ensures { result ≡ past (entry connectors) s.now at }
 {
@@ -145,7 +140,6 @@ pub fn connector_end(s: &[u8], at: usize) -> usize
     optional_text_end(s, optional_text_end(s, unit))
 }
 
-#[tactic(auto, unfolding(format::specs::Places::past, format::specs::Manifest::input_rest))]
 pub fn definition_end(s: &[u8], at: usize) -> usize
     ensures { result ≡ past (entry input_definitions) s.now at }
 {
