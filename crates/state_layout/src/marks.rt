@@ -52,12 +52,5 @@ pub fn all_marked(index: &[u32], from: usize, to: usize) -> bool
     requires { to ≤ length index.now }
     ensures { result ≡ all is_set (span index.now from to) }
 {
-    let mut i = from;
-    while i < to {
-        if index[i] == 0 {
-            return false;
-        }
-        i += 1;
-    }
-    true
+    (from..to).all(|i| index[i] != 0)
 }
