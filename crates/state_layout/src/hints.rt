@@ -12,14 +12,9 @@ fn put_hint(index: &mut [u32], at: usize, w: u32)
     requires { at + 4 ≤ length index.old }
     ensures { Kept at (at + 4) index.old index.new }
 {
-    let end = at + 4;
-    let mut i = at;
-    while i < end {
-        if index[i] == 0 {
-            index[i] = w;
-            return;
-        }
-        i += 1;
+    let free = index[at..at + 4].iter().position(|h| *h == 0);
+    if let Some(k) = free {
+        index[at + k] = w;
     }
 }
 
@@ -31,11 +26,9 @@ fn put_all(s: &[u8], section: u8, index: &mut [u32], from: usize, to: usize)
     let first = index.len() - 4 * to;
     let last = index.len() - 4 * from;
     clear(index, first, last);
-    let mut w = from;
-    while w < to {
+    for w in from..to {
         let at = hints_of(index, from, to, key_part(s, section, word_at(index, w)));
         put_hint(index, at, w as u32);
-        w += 1;
     }
 }
 

@@ -20,13 +20,13 @@ pub clear-requires : goal.clear-requires
 clear-requires c = omega arith
 
 pub loop-w-init : goal.loop-w-init
-loop-w-init c = (omega arith, kept_refl _ _ _)
+loop-w-init c = kept_refl _ _ _
 
 pub word_at-requires : goal.word_at-requires
-word_at-requires c = omega (arith, c.loop-w.invariant.1.long, c.clear.auto)
+word_at-requires c = omega (arith, c.loop-w.invariant.long, c.clear.auto)
 
 pub hints_of-at-requires : goal.hints_of-at-requires
-hints_of-at-requires c = omega (arith, c.loop-w.invariant.1.long)
+hints_of-at-requires c = omega (arith, c.loop-w.invariant.long)
 
 pub overflow_cast-w : goal.overflow_cast-w
 overflow_cast-w c = omega arith
@@ -34,17 +34,11 @@ overflow_cast-w c = omega arith
 pub put_hint-requires : goal.put_hint-requires
 put_hint-requires c = c.hints_of-at.ensures.1
 
-pub overflow_add-w : goal.overflow_add-w
-overflow_add-w c = omega arith
-
-pub loop-w-smaller : goal.loop-w-smaller
-loop-w-smaller c = omega arith
-
 pub loop-w-preserved : goal.loop-w-preserved
-loop-w-preserved c = (omega arith, kept_trans c.loop-w.invariant.1 (kept-widen c.put_hint.ensures (omega (arith, c.loop-w.invariant.1.long, c.hints_of-at.ensures)) (omega (arith, c.loop-w.invariant.1.long, c.hints_of-at.ensures))))
+loop-w-preserved c = kept_trans c.loop-w.invariant (kept-widen c.put_hint.ensures (omega (arith, c.loop-w.invariant.long, c.hints_of-at.ensures)) (omega (arith, c.loop-w.invariant.long, c.hints_of-at.ensures)))
 
 pub shape_of-index : goal.shape_of-index
-shape_of-index c = c.loop-w.invariant.1.long ∙ c.clear.auto.index
+shape_of-index c = c.loop-w.invariant.long ∙ c.clear.auto.index
 
 pub returns : goal.returns
-returns c = cleared-then (omega arith) (omega arith) c.clear.ensures c.loop-w.invariant.1
+returns c = cleared-then (omega arith) (omega arith) c.clear.ensures c.loop-w.invariant
