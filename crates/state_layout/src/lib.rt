@@ -54,16 +54,15 @@ pub fn validate_value_enum(s: &[u8], index: &[u32], classes: Table, t: &[u8], at
 }
 
 // From which word of the index on the entries of a section stand; those of section 13 would stand behind all others.
+#[tactic(auto, using(crate::proofs::Indexed::reach_start, crate::proofs::Indexed::reach_next, crate::proofs::Indexed::reach_end))]
 pub fn table_start(s: &[u8], index: &[u32], section: u8) -> usize
     requires tabled { Tabled s.now index.now }
     requires section_bound { section ≤ 13 }
     ensures { result ≡ table_start section (manifest_of s.now) }
 {
     let mut w = 12;
-    let mut k = Section::ENUMS;
-    while k < section {
-        w += count_at(s, word_at(index, k as usize - 1));
-        k += 1;
+    for k in Section::ENUMS..section {
+        w += count_at(s, word_at(index, usize::from(k) - 1));
     }
     w
 }
