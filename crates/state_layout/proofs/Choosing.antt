@@ -2,7 +2,7 @@
 use Prim.Native.Nat.{ℕ, zero, suc, ◌+◌, ◌-◌, ◌≤◌, ◌<◌, min}
 use native.Mathlib.Omega.{arith}
 use mathlib.Core.Path.{◌≡◌, refl, sym, ap, ◌∙◌}
-use mathlib.Core.Bool.{true, false, cond, ◌&&◌, and-true, or-false}
+use mathlib.Core.Bool.{true, false, not, cond, ◌&&◌, and-true, or-false}
 use mathlib.Core.List.{List, [], ◌∷◌}
 use lib.ListN.{length, get_or, get_or-eq_default}
 use lib.Dec.{eqb}
@@ -188,13 +188,13 @@ module _ (s t : List ℕ) where
 -- the types at a of s and at b of t, by their tags
 module _ (s t : List ℕ) (a b : ℕ) {k l : ℕ} (ek : k ≡ get_or s a 0) (el : l ≡ get_or t b 0) where
   -- of two tags they differ
-  pub types-apart : (k ≡ l → ⊥) → false ≡ same_type (value_at value_type s a) (value_at value_type t b)
-  types-apart n = rw (type-typed s a, type-typed t b, ← ek, ← el) (sym (typed-apart s t k l _ _ n))
+  pub types_apart : (k ≡ l → ⊥) → eqb k l ≡ same_type (value_at value_type s a) (value_at value_type t b)
+  types_apart n = rw (ne_eqb k l n, type-typed s a, type-typed t b, ← ek, ← el) (sym (typed-apart s t k l _ _ n))
 
   -- of one tag that is no enum's they are one
-  pub types-plain : k ≡ l → (k ≡ 4 → ⊥) → true ≡ same_type (value_at value_type s a) (value_at value_type t b)
-  types-plain i n = rw (type-typed s a, type-typed t b, ← ek, ← el, ← i) (sym (typed-plain s t k _ _ n))
+  pub types_plain : k ≡ l → (k ≡ 4 → ⊥) → not (eqb k 4) ≡ same_type (value_at value_type s a) (value_at value_type t b)
+  types_plain i n = rw (ne_eqb k 4 n, type-typed s a, type-typed t b, ← ek, ← el, ← i) (sym (typed-plain s t k _ _ n))
 
   -- enums are one if their classes are
-  pub types-enum : k ≡ l → k ≡ 4 → {p q : ℕ} → p ≡ min (a + 1) (length s) → q ≡ min (b + 1) (length t) → {x y : List ℕ} → x ≡ value_at text s p → y ≡ value_at text t q → same x y ≡ same_type (value_at value_type s a) (value_at value_type t b)
-  types-enum i z ep eq ex ey = rw (type-typed s a, type-typed t b, ← ek, ← el, ← i, z, ← ep, ← eq, ex, ey) (sym (typed-enum s t _ _))
+  pub types_enum : k ≡ l → k ≡ 4 → {p q : ℕ} → p ≡ min (a + 1) (length s) → q ≡ min (b + 1) (length t) → {x y : List ℕ} → x ≡ value_at text s p → y ≡ value_at text t q → same x y ≡ same_type (value_at value_type s a) (value_at value_type t b)
+  types_enum i z ep eq ex ey = rw (type-typed s a, type-typed t b, ← ek, ← el, ← i, z, ← ep, ← eq, ex, ey) (sym (typed-enum s t _ _))

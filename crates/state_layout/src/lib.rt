@@ -20,17 +20,14 @@ use state_index::{Table, ahead, text_end, text_part, word_at};
 use state_key_order::same_bytes;
 
 // Are the value types at a position of s and at one of t the same?
+#[tactic(auto, using(crate::proofs::Choosing::types_apart, crate::proofs::Choosing::types_plain, crate::proofs::Choosing::types_enum))]
 pub fn same_type(s: &[u8], a: usize, t: &[u8], b: usize) -> bool
     ensures { result ≡ same_type (value_at value_type s.now a) (value_at value_type t.now b) }
 {
     let tag = byte_at(s, a);
-    if tag != byte_at(t, b) {
-        return false;
-    }
-    if tag != WireValueType::ENUM {
-        return true;
-    }
-    same_bytes(text_part(s, ahead(s, a, 1)), text_part(t, ahead(t, b, 1)))
+    tag == byte_at(t, b)
+        && (tag != WireValueType::ENUM
+            || same_bytes(text_part(s, ahead(s, a, 1)), text_part(t, ahead(t, b, 1))))
 }
 
 // Is the value at a position of t of a class that the table lists, its ordinal in range, if it is an enum value at all?
