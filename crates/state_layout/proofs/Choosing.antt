@@ -61,9 +61,9 @@ module _ (s : List ℕ) where
   value-class at = valued-class (get_or s at 0) (min (at + 1) (length s))
 
   -- a value that is no enum has none
-  pub no-enum : (at : ℕ) (es : List (Entry enums)) {t : ℕ} → t ≡ get_or s at 0 → (t ≡ 4 → ⊥) → true ≡ enum_holds es (value_at value s at)
+  pub no_enum : (at : ℕ) (es : List (Entry enums)) {t : ℕ} → t ≡ get_or s at 0 → (t ≡ 4 → ⊥) → true ≡ enum_holds es (value_at value s at)
   unfolding enum_holds all
-  no-enum at es {t} e n = rw (value-class at, ← e, ne_eqb t 4 n)
+  no_enum at es {t} e n = rw (value-class at, ← e, ne_eqb t 4 n)
 
   -- a value has a type if the type at its position is that one: the class of an enum value stands where that of an enum type does
   pub has-type : (at : ℕ) (u : El value_type) → has_type (value_at value s at) u ≡ same_type (value_at value_type s at) u

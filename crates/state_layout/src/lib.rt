@@ -31,6 +31,7 @@ pub fn same_type(s: &[u8], a: usize, t: &[u8], b: usize) -> bool
 }
 
 // Is the value at a position of t of a class that the table lists, its ordinal in range, if it is an enum value at all?
+#[tactic(auto, using(crate::proofs::Choosing::no_enum, crate::proofs::Classed::class_unlisted, crate::proofs::Classed::class_zero, crate::proofs::Classed::class_range))]
 pub fn validate_value_enum(s: &[u8], index: &[u32], classes: Table, t: &[u8], at: usize) -> bool
     requires { Keyed enums s.now index.now classes.from classes.to classes.to }
     ensures { result ≡ enum_holds (classes_at s.now index.now classes.from classes.to) (value_at value t.now at) }
@@ -44,10 +45,7 @@ pub fn validate_value_enum(s: &[u8], index: &[u32], classes: Table, t: &[u8], at
         return false;
     };
     let ordinal = count_at(t, text_end(t, class));
-    if ordinal == 0 {
-        return false;
-    }
-    ordinal <= count_at(s, text_end(s, word_at(index, w)))
+    0 < ordinal && ordinal <= count_at(s, text_end(s, word_at(index, w)))
 }
 
 // From which word of the index on the entries of a section stand; those of section 13 would stand behind all others.
