@@ -26,6 +26,7 @@ pub fn mark(
 }
 
 // The same, where the mark is not set yet; a key whose mark is set counts as not found.
+// Not one function with `mark`: what they share is the search, a call already.
 pub fn mark_new(
     s: &[u8],
     section: u8,
