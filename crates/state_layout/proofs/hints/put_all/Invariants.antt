@@ -4,4 +4,4 @@ use Prim.Native.Nat.{◌*◌, ◌-◌}
 use Rattle.state_layout.proofs.hints.put_all.Given as goal
 
 abbrev pub invariant-loop-w : goal.invariant-loop-w
-invariant-loop-w l = Kept (length l.initial.index - 4 * l.to) (length l.initial.index) l.initial.index l.index
+invariant-loop-w l = Kept (length l.initial.index - 4 * l.table.to) (length l.initial.index) l.initial.index l.index
