@@ -34,15 +34,16 @@ fn put_all(s: &[u8], section: u8, index: &mut [u32], table: Table)
 }
 
 // Fills the hints of a section's table, if the index is long enough.
+#[tactic(auto, using(crate::proofs::Hinting::start_fits, crate::proofs::Hinting::kept_leaves))]
 pub fn put_hints(s: &[u8], index: &mut [u32], section: u8)
     requires tabled { Tabled s.now index.old }
     requires section_bound { section ≤ 12 }
     ensures { Leaves s.now index.old index.new }
 {
     let table = table_at(s, index, section);
-    if has_hints(index, table.from, table.to) {
-        if table_start(s, index, 13) <= index.len() - 4 * table.to {
-            put_all(s, section, index, table);
-        }
+    if has_hints(index, table.from, table.to)
+        && table_start(s, index, 13) <= index.len() - 4 * table.to
+    {
+        put_all(s, section, index, table);
     }
 }
