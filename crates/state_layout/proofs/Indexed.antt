@@ -246,9 +246,6 @@ module _ {s index : List ℕ} where
       let b : 2 + i - 2 ≡ i = omega arith in
       rw (a, b, word-there t i h, ← c) (ap (λ (x : ℕ). 12 + x) (sum-next (counts lists (manifest_of s).1) i) ∙ omega arith)
 
-  pub reach_word : {section w k : ℕ} → Reaching s index section w k → k < section → k - 1 < length index
-  reach_word r h = omega (arith, r.bound, room r.tabled, all-rows (manifest_of s))
-
   pub reach_next : {section w k p n : ℕ} → Reaching s index section w k → k < section → p ≡ get_or index (k - 1) 0 → n ≡ number_at 4 s p → Reaching s index section (w + n) (k + 1)
   reach_next {section} {w} {k} {p} {n} r h e f =
       let i : k ≡ 2 + (k - 2) = omega (arith, r.from) in
