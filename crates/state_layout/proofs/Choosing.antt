@@ -2,14 +2,14 @@
 use Prim.Native.Nat.{ℕ, zero, suc, ◌+◌, ◌-◌, ◌≤◌, ◌<◌, min}
 use native.Mathlib.Omega.{arith}
 use mathlib.Core.Path.{◌≡◌, refl, sym, ap, ◌∙◌}
-use mathlib.Core.Bool.{true, false, cond, ◌&&◌, and-true, or-false}
+use mathlib.Core.Bool.{true, false, not, cond, ◌&&◌, and-true, or-false}
 use mathlib.Core.List.{List, [], ◌∷◌}
 use lib.ListN.{length, get_or, get_or-eq_default}
 use lib.Dec.{eqb}
 use borrow.Author.Tests.{eq-eqb, ne_eqb}
 use Rattle.format.specs.Lists.{same, is_in}
-use Rattle.format.specs.Format.{Rule, Fmt, El, done, number, tag, text, ◌then◌, list, choice}
-use Rattle.format.specs.Manifest.{optional, value_type, value, enums}
+use Rattle.format.specs.Format.{free, Fmt, El, done, number, tag, text, ◌then◌, list, choice}
+use Rattle.format.specs.Manifest.{optional, value_type, value, enums, params}
 use Rattle.format.specs.Fields.{Entry, type_tag, type_class, value_tag, value_class}
 use Rattle.format.specs.Places.{number_at, skip, past}
 use Rattle.format.specs.Values.{value_at}
@@ -61,9 +61,9 @@ module _ (s : List ℕ) where
   value-class at = valued-class (get_or s at 0) (min (at + 1) (length s))
 
   -- a value that is no enum has none
-  pub no-enum : (at : ℕ) (es : List (Entry enums)) {t : ℕ} → t ≡ get_or s at 0 → (t ≡ 4 → ⊥) → true ≡ enum_holds es (value_at value s at)
+  pub no_enum : (at : ℕ) (es : List (Entry enums)) {t : ℕ} → t ≡ get_or s at 0 → (t ≡ 4 → ⊥) → true ≡ enum_holds es (value_at value s at)
   unfolding enum_holds all
-  no-enum at es {t} e n = rw (value-class at, ← e, ne_eqb t 4 n)
+  no_enum at es {t} e n = rw (value-class at, ← e, ne_eqb t 4 n)
 
   -- a value has a type if the type at its position is that one: the class of an enum value stands where that of an enum type does
   pub has-type : (at : ℕ) (u : El value_type) → has_type (value_at value s at) u ≡ same_type (value_at value_type s at) u
@@ -96,7 +96,7 @@ choice-past : (fs : List Fmt) (s : List ℕ) (at : ℕ) → past (get_or fs (get
 unfolding past
 choice-past fs s at = refl
 
-pub done-past : (s : List ℕ) (at : ℕ) → at ≡ past done s at
+done-past : (s : List ℕ) (at : ℕ) → at ≡ past done s at
 unfolding past
 done-past s at = refl
 
@@ -105,57 +105,66 @@ module _ (s : List ℕ) (at : ℕ) {t first : ℕ} (et : t ≡ get_or s at 0) (e
   chosen : (fs : List Fmt) {f : Fmt} → get_or fs t done ≡ f → {e : ℕ} → e ≡ past f s first → e ≡ past (choice fs) s at
   chosen fs i h = h ∙ rw (← i, ef, et) (choice-past fs s at)
 
-  pub type-enum : t ≡ 4 → {e : ℕ} → e ≡ past text s first → e ≡ past value_type s at
+  pub type_enum : t ≡ 4 → {e : ℕ} → e ≡ past text s first → e ≡ past value_type s at
   unfolding value_type
-  type-enum z h = chosen types (rw z) h
+  type_enum z h = chosen types (rw z) h
 
-  pub type-other : (t ≡ 4 → ⊥) → first ≡ past value_type s at
+  pub type_other : (t ≡ 4 → ⊥) → first ≡ past value_type s at
   unfolding value_type
-  type-other n = chosen types (plain t n) (done-past s first)
+  type_other n = chosen types (plain t n) (done-past s first)
 
-  pub value-number : t < 2 → {e : ℕ} → e ≡ min (first + 8) (length s) → e ≡ past value s at
+  pub value_number : t < 2 → {e : ℕ} → e ≡ min (first + 8) (length s) → e ≡ past value s at
   unfolding value past
-  value-number l h = chosen values (value_low t l) h
+  value_number l h = chosen values (value_low t l) h
 
-  pub value-boolean : t ≡ 2 → {e : ℕ} → e ≡ min (first + 1) (length s) → e ≡ past value s at
+  pub value_boolean : t ≡ 2 → {e : ℕ} → e ≡ min (first + 1) (length s) → e ≡ past value s at
   unfolding value past
-  value-boolean z h = chosen values {f = tag 2} (rw z) h
+  value_boolean z h = chosen values {f = tag 2} (rw z) h
 
-  pub value-string : t ≡ 3 → {e : ℕ} → e ≡ past text s first → e ≡ past value s at
+  pub value_string : t ≡ 3 → {e : ℕ} → e ≡ past text s first → e ≡ past value s at
   unfolding value
-  value-string z h = chosen values (rw z) h
+  value_string z h = chosen values (rw z) h
 
-  pub value-enum : t ≡ 4 → {m e : ℕ} → m ≡ past text s first → e ≡ min (m + 4) (length s) → e ≡ past value s at
+  pub value_enum : t ≡ 4 → {m e : ℕ} → m ≡ past text s first → e ≡ min (m + 4) (length s) → e ≡ past value s at
   unfolding value past
-  value-enum z i h = chosen values {f = text then number 4} (rw z) (h ∙ rw i)
+  value_enum z i h = chosen values {f = text then number 4} (rw z) (h ∙ rw i)
 
-  pub value-other : 4 < t → first ≡ past value s at
+  pub value_other : 4 < t → first ≡ past value s at
   unfolding value
-  value-other h = chosen values (get_or-eq_default {A = Fmt} values done {n = t} h) (done-past s first)
+  value_other h = chosen values (get_or-eq_default {A = Fmt} values done {n = t} h) (done-past s first)
 
-  pub optional-given : (f : Fmt) → t ≡ 1 → {e : ℕ} → e ≡ past f s first → e ≡ past (optional f) s at
-  optional-given f z h = chosen (done ∷ f ∷ []) (rw z) h
+  pub optional_given : (f : Fmt) → t ≡ 1 → {e : ℕ} → e ≡ past f s first → e ≡ past (optional f) s at
+  optional_given f z h = chosen (done ∷ f ∷ []) (rw z) h
 
-  pub optional-none : (f : Fmt) → (t ≡ 1 → ⊥) → first ≡ past (optional f) s at
-  optional-none f n = chosen (done ∷ f ∷ []) (left_out f t n) (done-past s first)
+  pub optional_none : (f : Fmt) → (t ≡ 1 → ⊥) → first ≡ past (optional f) s at
+  optional_none f n = chosen (done ∷ f ∷ []) (left_out f t n) (done-past s first)
 
 -- ---- lists, entry by entry
-module _ (k r : Fmt) (s : List ℕ) where
+module _ (e : Fmt) (s : List ℕ) where
   -- where the entries that are left end
   abbrev pub entries_end : (left p : ℕ) → ℕ
-  entries_end left p = skip (past k s) (past r s) left p
+  entries_end left p = skip (past e s) (past done s) left p
 
-  pub list-start : (w least : ℕ) (u : Rule) (at : ℕ) {n p : ℕ} → n ≡ number_at w s at → p ≡ min (at + w) (length s) → entries_end n p ≡ past (list w least u k r) s at
+  pub list_start : (at : ℕ) {n p : ℕ} → n ≡ number_at 4 s at → p ≡ min (at + 4) (length s) → entries_end (n - 0) p ≡ past (list 4 0 free e done) s at
   unfolding past
-  list-start w least u at i j = rw (i, j)
+  list_start at {n} i j = let d : n - 0 ≡ n = omega arith in rw (d, i, j)
 
-  pub list-next : (left p : ℕ) → 0 < left → {m e z : ℕ} → m ≡ past k s p → e ≡ past r s m → entries_end left p ≡ z → entries_end (left - 1) e ≡ z
-  list-next zero p l i j h = absurd (omega arith)
-  list-next (suc n) p l i j h = let d : suc n - 1 ≡ n = omega arith in rw (d, j, i) h
+  pub list_next : (n i p : ℕ) → i < n → {m z : ℕ} → m ≡ past e s p → entries_end (n - i) p ≡ z → entries_end (n - (i + 1)) m ≡ z
+  unfolding past
+  list_next n i p l j h = let d : n - i ≡ suc (n - (i + 1)) = omega arith in rw j (rw d at h)
 
-  pub list-end : (left : ℕ) → left ≤ 0 → {p z : ℕ} → entries_end left p ≡ z → p ≡ z
-  list-end zero l h = h
-  list-end (suc n) l h = absurd (omega arith)
+  pub list_end : (n i : ℕ) → n ≤ i → {p z : ℕ} → entries_end (n - i) p ≡ z → p ≡ z
+  list_end n i l h = let d : n - i ≡ 0 = omega arith in rw d at h
+
+-- a parameter is a name and a value
+skip-parts : (s : List ℕ) (n p : ℕ) → skip (past (text then value) s) (past done s) n p ≡ skip (past text s) (past value s) n p
+unfolding past
+skip-parts s zero p = refl
+skip-parts s (suc n) p = skip-parts s n (past value s (past text s p))
+
+pub params_past : (s : List ℕ) (at : ℕ) → past (list 4 0 free (text then value) done) s at ≡ past params s at
+unfolding past params
+params_past s at = skip-parts s (number_at 4 s at) (min (at + 4) (length s))
 
 -- ---- one type or two
 type-typed : (s : List ℕ) (at : ℕ) → value_at value_type s at ≡ typed s (get_or s at 0) (min (at + 1) (length s))
@@ -179,13 +188,13 @@ module _ (s t : List ℕ) where
 -- the types at a of s and at b of t, by their tags
 module _ (s t : List ℕ) (a b : ℕ) {k l : ℕ} (ek : k ≡ get_or s a 0) (el : l ≡ get_or t b 0) where
   -- of two tags they differ
-  pub types-apart : (k ≡ l → ⊥) → false ≡ same_type (value_at value_type s a) (value_at value_type t b)
-  types-apart n = rw (type-typed s a, type-typed t b, ← ek, ← el) (sym (typed-apart s t k l _ _ n))
+  pub types_apart : (k ≡ l → ⊥) → eqb k l ≡ same_type (value_at value_type s a) (value_at value_type t b)
+  types_apart n = rw (ne_eqb k l n, type-typed s a, type-typed t b, ← ek, ← el) (sym (typed-apart s t k l _ _ n))
 
   -- of one tag that is no enum's they are one
-  pub types-plain : k ≡ l → (k ≡ 4 → ⊥) → true ≡ same_type (value_at value_type s a) (value_at value_type t b)
-  types-plain i n = rw (type-typed s a, type-typed t b, ← ek, ← el, ← i) (sym (typed-plain s t k _ _ n))
+  pub types_plain : k ≡ l → (k ≡ 4 → ⊥) → not (eqb k 4) ≡ same_type (value_at value_type s a) (value_at value_type t b)
+  types_plain i n = rw (ne_eqb k 4 n, type-typed s a, type-typed t b, ← ek, ← el, ← i) (sym (typed-plain s t k _ _ n))
 
   -- enums are one if their classes are
-  pub types-enum : k ≡ l → k ≡ 4 → {p q : ℕ} → p ≡ min (a + 1) (length s) → q ≡ min (b + 1) (length t) → {x y : List ℕ} → x ≡ value_at text s p → y ≡ value_at text t q → same x y ≡ same_type (value_at value_type s a) (value_at value_type t b)
-  types-enum i z ep eq ex ey = rw (type-typed s a, type-typed t b, ← ek, ← el, ← i, z, ← ep, ← eq, ex, ey) (sym (typed-enum s t _ _))
+  pub types_enum : k ≡ l → k ≡ 4 → {p q : ℕ} → p ≡ min (a + 1) (length s) → q ≡ min (b + 1) (length t) → {x y : List ℕ} → x ≡ value_at text s p → y ≡ value_at text t q → same x y ≡ same_type (value_at value_type s a) (value_at value_type t b)
+  types_enum i z ep eq ex ey = rw (type-typed s a, type-typed t b, ← ek, ← el, ← i, z, ← ep, ← eq, ex, ey) (sym (typed-enum s t _ _))

@@ -89,9 +89,9 @@ module _ {s index : List ℕ} {from to : ℕ} (t : List ℕ) (p : ℕ) (k : Keye
       ∙ any-map (λ e. same class (enum_path e) && in_range (ordinal (value_at value t p)) e) (value_at (entry enums) s) (span index from to)
 
   -- its class is not listed
-  pub class-unlisted : f ≡ None → false ≡ holds
+  pub class_unlisted : f ≡ None → false ≡ holds
   unfolding numbered
-  class-unlisted n = sym (holds-is ∙ any_none class (key_at enums s) range_at (span index from to) (r.nothing n))
+  class_unlisted n = sym (holds-is ∙ any_none class (key_at enums s) range_at (span index from to) (r.nothing n))
 
   -- the word of its class, and its ordinal n
   module _ {w : ℕ} (i : f ≡ Some w) {end n : ℕ} (ends : end ≡ past text t start) (is : n ≡ number_at 4 t end) where
@@ -111,9 +111,9 @@ module _ {s index : List ℕ} {from to : ℕ} (t : List ℕ) (p : ℕ) (k : Keye
         ∙ rw (word, ordinal-here) (range-is n s (get_or index w 0))
 
     -- ordinals start at 1
-    pub class-zero : n ≡ 0 → false ≡ holds
-    class-zero z = sym (holds-here ∙ rw (le-ltb 0 n (omega arith)))
+    pub class_zero : n ≤ 0 → ltb 0 n ≡ holds
+    class_zero z = sym (holds-here ∙ rw (le-ltb 0 n z))
 
     -- and end with the last member
-    pub class-range : (n ≡ 0 → ⊥) → {q names count : ℕ} → q ≡ get_or index w 0 → names ≡ past text s q → count ≡ number_at 4 s names → leb n count ≡ holds
-    class-range z word after counts = sym (holds-here ∙ rw (lt-ltb 0 n (omega arith), counts, after, word))
+    pub class_range : 0 < n → {q names count : ℕ} → q ≡ get_or index w 0 → names ≡ past text s q → count ≡ number_at 4 s names → leb n count ≡ holds
+    class_range z word after counts = sym (holds-here ∙ rw (lt-ltb 0 n z, counts, after, word))

@@ -218,8 +218,8 @@ pub record Reaching (s index : List ℕ) (section w k : ℕ) : Type 0 where
   pub is : w ≡ table_start k (manifest_of s)
 
 module _ {s index : List ℕ} where
-  pub reach-start : (section : ℕ) → Tabled s index → section ≤ 13 → Reaching s index section 12 2
-  reach-start section t h = record { tabled = t; bound = h; from = omega arith; below = omega arith; is = sym (rows (manifest_of s)).first }
+  pub reach_start : (section : ℕ) → Tabled s index → section ≤ 13 → Reaching s index section 12 2
+  reach_start section t h = record { tabled = t; bound = h; from = omega arith; below = omega arith; is = sym (rows (manifest_of s)).first }
 
   pub words-there : Tabled s index → room_start s ≤ length index
   words-there t = omega (arith, room t)
@@ -246,11 +246,8 @@ module _ {s index : List ℕ} where
       let b : 2 + i - 2 ≡ i = omega arith in
       rw (a, b, word-there t i h, ← c) (ap (λ (x : ℕ). 12 + x) (sum-next (counts lists (manifest_of s).1) i) ∙ omega arith)
 
-  pub reach-word : {section w k : ℕ} → Reaching s index section w k → k < section → k - 1 < length index
-  reach-word r h = omega (arith, r.bound, room r.tabled, all-rows (manifest_of s))
-
-  pub reach-next : {section w k p n : ℕ} → Reaching s index section w k → k < section → p ≡ get_or index (k - 1) 0 → n ≡ number_at 4 s p → Reaching s index section (w + n) (k + 1)
-  reach-next {section} {w} {k} {p} {n} r h e f =
+  pub reach_next : {section w k p n : ℕ} → Reaching s index section w k → k < section → p ≡ get_or index (k - 1) 0 → n ≡ number_at 4 s p → Reaching s index section (w + n) (k + 1)
+  reach_next {section} {w} {k} {p} {n} r h e f =
       let i : k ≡ 2 + (k - 2) = omega (arith, r.from) in
       let j : k - 1 ≡ suc (k - 2) = omega (arith, r.from) in
       let l : k + 1 ≡ 3 + (k - 2) = omega (arith, r.from) in
@@ -263,12 +260,12 @@ module _ {s index : List ℕ} where
         is = rw (l, c, f, e, j, r.is) (ap (λ (x : ℕ). table_start x (manifest_of s) + number_at 4 s (get_or index (suc (k - 2)) 0)) i);
       }
 
-  pub reach-end : {section w k : ℕ} → Reaching s index section w k → section ≤ k → w ≡ table_start section (manifest_of s)
+  pub reach_end : {section w k : ℕ} → Reaching s index section w k → section ≤ k → w ≡ table_start section (manifest_of s)
   unfolding table_start
-  reach-end {section} {w} {k} r h = let e : k - 2 ≡ section - 2 = omega (arith, r.from, r.below) in rw (← e) r.is
+  reach_end {section} {w} {k} r h = let e : k - 2 ≡ section - 2 = omega (arith, r.from, r.below) in rw (← e) r.is
 
   -- no table reaches further than half of the bytes, so no sum overflows
-  pub reach-fits : {section w k : ℕ} → Reaching s index section w k → w < 2 ^ 64
-  reach-fits {section} {w} {k} r =
+  pub reach_fits : {section w k : ℕ} → Reaching s index section w k → w < 2 ^ 64
+  reach_fits {section} {w} {k} r =
       let e : w ≤ room_start s = rw r.is (start-le (manifest_of s) k (omega (arith, r.below, r.bound))) in
       omega (arith, room-bytes r.tabled, r.tabled.short)

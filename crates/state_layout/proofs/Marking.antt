@@ -16,23 +16,6 @@ use Rattle.state_layout.proofs.Kept.{kept_refl, set-kept, span_set, span-kept}
 use Rattle.state_layout.proofs.Marked.{mark_set, mark-read, keys-long, key_of, key-found, keyed-kept}
 
 module _ {e : Section} {s old : List ℕ} {from to m : ℕ} {key : List ℕ} {f : Option ℕ} (k : Keyed e s old from to m) (r : Finds e s old from to key f) where
-  pub marks-nothing : f ≡ None → Marks e s from to m key f old old
-  marks-nothing n = record {
-    at = λ v i. let z : ◌≡◌ {A = ℕ} 0 1 = cc in absurd (omega arith);
-    nothing = r.nothing;
-    same = λ i. refl;
-    kept = kept_refl m (m + (to - from)) old;
-    next = λ v i seen h. let z : ◌≡◌ {A = ℕ} 0 1 = cc in absurd (omega arith);
-  }
-
-  pub marks-new-nothing : f ≡ None → MarksNew e s from to m key f old old
-  marks-new-nothing n = record {
-    at = λ v i. let z : ◌≡◌ {A = ℕ} 0 1 = cc in absurd (omega arith);
-    kept = kept_refl m (m + (to - from)) old;
-    found = λ v i seen h. let z : ◌≡◌ {A = ℕ} 0 1 = cc in absurd (omega arith);
-    nothing = λ i seen h. rw (r.nothing n);
-  }
-
   module _ {w : ℕ} (i : f ≡ Some w) where
     least : from ≤ w
     least = (r.at w i).0

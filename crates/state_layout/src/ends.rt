@@ -1,6 +1,8 @@
 // Where the parts of a manifest end, by their tags and lengths alone, whatever the bytes are.
+#![tactic(auto, unfolding(format::specs::Places::past, format::specs::Manifest::members, format::specs::Manifest::connector_keys, format::specs::Manifest::block_head, format::specs::Manifest::connector_rest, format::specs::Manifest::input_rest))]
+
 ghost use Rattle.std.specs.Prelude.{◌≡◌};
-ghost use Rattle.format.specs.Format.{text, number};
+ghost use Rattle.format.specs.Format.{Fmt, done, free, list, text, number, ◌then◌};
 ghost use Rattle.format.specs.Keys.{block_key, connector_key};
 ghost use Rattle.format.specs.Manifest.{value_type, value, optional, members, params, connector_keys, block_head, entry, enums, connectors, input_definitions};
 ghost use Rattle.format.specs.Places.{past};
@@ -9,6 +11,7 @@ use state::WireValueType;
 use state_index::keys::{block_key_end, byte_at, connector_key_end, count_at};
 use state_index::{ahead, text_end};
 
+#[tactic(auto, using(crate::proofs::Choosing::type_enum, crate::proofs::Choosing::type_other))]
 pub fn type_end(s: &[u8], at: usize) -> usize
     ensures { result ≡ past value_type s.now at }
 {
@@ -19,82 +22,87 @@ pub fn type_end(s: &[u8], at: usize) -> usize
     first
 }
 
+#[tactic(auto, using(crate::proofs::Choosing::value_number, crate::proofs::Choosing::value_boolean, crate::proofs::Choosing::value_string, crate::proofs::Choosing::value_enum, crate::proofs::Choosing::value_other))]
 pub fn value_end(s: &[u8], at: usize) -> usize
     ensures { result ≡ past value s.now at }
 {
-    let tag = byte_at(s, at);
     let first = ahead(s, at, 1);
-    if tag < WireValueType::BOOLEAN {
-        return ahead(s, first, 8);
+    match byte_at(s, at) {
+        WireValueType::REAL | WireValueType::INTEGER => ahead(s, first, 8),
+        WireValueType::BOOLEAN => ahead(s, first, 1),
+        WireValueType::STRING => text_end(s, first),
+        WireValueType::ENUM => ahead(s, text_end(s, first), 4),
+        _ => first,
     }
-    if tag == WireValueType::BOOLEAN {
-        return ahead(s, first, 1);
-    }
-    if tag == WireValueType::STRING {
-        return text_end(s, first);
-    }
-    if tag == WireValueType::ENUM {
-        return ahead(s, text_end(s, first), 4);
+}
+
+// Of what may be left out: a byte that is 1 where it is there.
+#[tactic(auto, using(crate::proofs::Choosing::optional_given, crate::proofs::Choosing::optional_none))]
+fn optional_end<F: Fn(&[u8], usize) -> usize>(s: &[u8], at: usize, given_end: F) -> usize
+    ghost given: { Fmt }
+    requires callable { F.IsAlwaysCallable given_end }
+    requires ends { (p r : _) → F.post given_end s p r → r ≡ past given s.now p }
+    ensures { result ≡ past (optional given) s.now at }
+{
+    let first = ahead(s, at, 1);
+    if byte_at(s, at) == 1 {
+        return given_end(s, first);
     }
     first
 }
 
-// Of a minimum or a maximum, given or not.
+// Of a minimum or a maximum.
 pub fn bound_end(s: &[u8], at: usize) -> usize
     ensures { result ≡ past (optional value) s.now at }
 {
-    let first = ahead(s, at, 1);
-    if byte_at(s, at) == 1 {
-        return value_end(s, first);
-    }
-    first
+    optional_end(s, at, value_end)
 }
 
-// Of a unit or a quantity, given or not.
+// Of a unit or a quantity.
 pub fn optional_text_end(s: &[u8], at: usize) -> usize
     ensures { result ≡ past (optional text) s.now at }
 {
-    let first = ahead(s, at, 1);
-    if byte_at(s, at) == 1 {
-        return text_end(s, first);
+    optional_end(s, at, text_end)
+}
+
+// Of a counted list, entry by entry.
+#[tactic(auto, using(crate::proofs::Choosing::list_start, crate::proofs::Choosing::list_next, crate::proofs::Choosing::list_end))]
+fn list_end<F: Fn(&[u8], usize) -> usize>(s: &[u8], at: usize, entry_end: F) -> usize
+    ghost entry: { Fmt }
+    requires callable { F.IsAlwaysCallable entry_end }
+    requires ends { (p r : _) → F.post entry_end s p r → r ≡ past entry s.now p }
+    ensures { result ≡ past (list 4 0 free entry done) s.now at }
+{
+    let mut p = ahead(s, at, 4);
+    for _ in 0..count_at(s, at) {
+        p = entry_end(s, p);
     }
-    first
+    p
 }
 
 pub fn members_end(s: &[u8], at: usize) -> usize
     ensures { result ≡ past members s.now at }
 {
-    let mut left = count_at(s, at);
-    let mut p = ahead(s, at, 4);
-    while 0 < left {
-        p = text_end(s, p);
-        left -= 1;
-    }
-    p
+    list_end(s, at, text_end)
 }
 
+fn parameter_end(s: &[u8], at: usize) -> usize
+    ensures { result ≡ past (text then value) s.now at }
+{
+    value_end(s, text_end(s, at))
+}
+
+#[tactic(auto, using(crate::proofs::Choosing::params_past))]
 pub fn parameters_end(s: &[u8], at: usize) -> usize
     ensures { result ≡ past params s.now at }
 {
-    let mut left = count_at(s, at);
-    let mut p = ahead(s, at, 4);
-    while 0 < left {
-        p = value_end(s, text_end(s, p));
-        left -= 1;
-    }
-    p
+    list_end(s, at, parameter_end)
 }
 
 pub fn connector_keys_end(s: &[u8], at: usize) -> usize
     ensures { result ≡ past connector_keys s.now at }
 {
-    let mut left = count_at(s, at);
-    let mut p = ahead(s, at, 4);
-    while 0 < left {
-        p = connector_key_end(s, p);
-        left -= 1;
-    }
-    p
+    list_end(s, at, connector_key_end)
 }
 
 // Where the kind of the block at a position stands; revision, state length and parameters follow it.

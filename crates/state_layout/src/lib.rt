@@ -20,20 +20,18 @@ use state_index::{Table, ahead, text_end, text_part, word_at};
 use state_key_order::same_bytes;
 
 // Are the value types at a position of s and at one of t the same?
+#[tactic(auto, using(crate::proofs::Choosing::types_apart, crate::proofs::Choosing::types_plain, crate::proofs::Choosing::types_enum))]
 pub fn same_type(s: &[u8], a: usize, t: &[u8], b: usize) -> bool
     ensures { result ≡ same_type (value_at value_type s.now a) (value_at value_type t.now b) }
 {
     let tag = byte_at(s, a);
-    if tag != byte_at(t, b) {
-        return false;
-    }
-    if tag != WireValueType::ENUM {
-        return true;
-    }
-    same_bytes(text_part(s, ahead(s, a, 1)), text_part(t, ahead(t, b, 1)))
+    tag == byte_at(t, b)
+        && (tag != WireValueType::ENUM
+            || same_bytes(text_part(s, ahead(s, a, 1)), text_part(t, ahead(t, b, 1))))
 }
 
 // Is the value at a position of t of a class that the table lists, its ordinal in range, if it is an enum value at all?
+#[tactic(auto, using(crate::proofs::Choosing::no_enum, crate::proofs::Classed::class_unlisted, crate::proofs::Classed::class_zero, crate::proofs::Classed::class_range))]
 pub fn validate_value_enum(s: &[u8], index: &[u32], classes: Table, t: &[u8], at: usize) -> bool
     requires { Keyed enums s.now index.now classes.from classes.to classes.to }
     ensures { result ≡ enum_holds (classes_at s.now index.now classes.from classes.to) (value_at value t.now at) }
@@ -47,23 +45,19 @@ pub fn validate_value_enum(s: &[u8], index: &[u32], classes: Table, t: &[u8], at
         return false;
     };
     let ordinal = count_at(t, text_end(t, class));
-    if ordinal == 0 {
-        return false;
-    }
-    ordinal <= count_at(s, text_end(s, word_at(index, w)))
+    0 < ordinal && ordinal <= count_at(s, text_end(s, word_at(index, w)))
 }
 
 // From which word of the index on the entries of a section stand; those of section 13 would stand behind all others.
+#[tactic(auto, using(crate::proofs::Indexed::reach_start, crate::proofs::Indexed::reach_next, crate::proofs::Indexed::reach_end))]
 pub fn table_start(s: &[u8], index: &[u32], section: u8) -> usize
     requires tabled { Tabled s.now index.now }
     requires section_bound { section ≤ 13 }
     ensures { result ≡ table_start section (manifest_of s.now) }
 {
     let mut w = 12;
-    let mut k = Section::ENUMS;
-    while k < section {
-        w += count_at(s, word_at(index, k as usize - 1));
-        k += 1;
+    for k in Section::ENUMS..section {
+        w += count_at(s, word_at(index, usize::from(k) - 1));
     }
     w
 }

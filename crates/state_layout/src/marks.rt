@@ -26,6 +26,7 @@ pub fn mark(
 }
 
 // The same, where the mark is not set yet; a key whose mark is set counts as not found.
+// Not one function with `mark`: what they share is the search, a call already.
 pub fn mark_new(
     s: &[u8],
     section: u8,
@@ -52,12 +53,5 @@ pub fn all_marked(index: &[u32], from: usize, to: usize) -> bool
     requires { to ≤ length index.now }
     ensures { result ≡ all is_set (span index.now from to) }
 {
-    let mut i = from;
-    while i < to {
-        if index[i] == 0 {
-            return false;
-        }
-        i += 1;
-    }
-    true
+    (from..to).all(|i| index[i] != 0)
 }

@@ -1,10 +1,7 @@
 use Rattle.state_index.specs.Sort.{Kept}
 use lib.ListN.{length}
-use Prim.Native.Nat.{◌*◌, ◌-◌, ◌≤◌}
+use Prim.Native.Nat.{◌*◌, ◌-◌}
 use Rattle.state_layout.proofs.hints.put_all.Given as goal
 
 abbrev pub invariant-loop-w : goal.invariant-loop-w
-invariant-loop-w l = (l.from ≤ l.w) × Kept (length l.initial.index - 4 * l.to) (length l.initial.index) l.initial.index l.index
-
-abbrev pub decreases-loop-w : goal.decreases-loop-w
-decreases-loop-w l = l.to - l.w
+invariant-loop-w l = Kept (length l.initial.index - 4 * l.table.to) (length l.initial.index) l.initial.index l.index

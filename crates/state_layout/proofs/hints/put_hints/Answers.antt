@@ -1,17 +1,10 @@
-use Rattle.state_layout.proofs.Hinting.{start_fits, kept_leaves}
-use Prim.Native.Nat.{◌+◌, ◌<◌, ◌^◌}
+use Rattle.state_layout.proofs.Hinting.{start_fits}
+use Prim.Native.Nat.{suc, ◌<◌, ◌^◌}
 use native.Mathlib.Omega.{arith}
 use Rattle.state_layout.proofs.hints.put_hints.Goals as goal
 
-pub overflow_mul-to : goal.overflow_mul-to
-overflow_mul-to c = omega (arith, c.has_hints.ensures c.if-has_hints.true)
-
-pub overflow_sub-index : goal.overflow_sub-index
-overflow_sub-index c = omega (arith, c.has_hints.ensures c.if-has_hints.true)
-
 pub put_all-requires : goal.put_all-requires
-put_all-requires c = let h = c.has_hints.ensures c.if-has_hints.true in let f : c.table_start-to.result < 2 ^ 32 = rw c.table_start-to.ensures (start_fits c.requires.tabled (c.args.section + 1) (omega (arith, c.requires.section_bound))) in (h.0, h.1, f)
-
-pub returns-then-table_start-index : goal.returns-then-table_start-index
-returns-then-table_start-index c =
-    kept_leaves c.requires.tabled c.put_all.ensures c.table_start.ensures c.if-table_start-index.true
+put_all-requires c =
+    let h = c.has_hints.ensures c.if-has_hints.true in
+    let f : c.table_at-table.result.to < 2 ^ 32 = rw c.table_at-table.ensures (start_fits c.requires.tabled (suc c.args.section) (omega (arith, c.requires.section_bound))) in
+    (h.0, h.1, f)

@@ -1,10 +1,6 @@
-use mathlib.Core.Path.{refl}
 use native.Mathlib.Omega.{arith}
-use Rattle.state_layout.proofs.Marking.{marks-nothing, marks-at}
+use Rattle.state_layout.proofs.Marking.{marks-at}
 use Rattle.state_layout.proofs.marks.mark.Goals as goal
-
-pub returns-in_err-w : goal.returns-in_err-w
-returns-in_err-w c = rw c.from_residual.ensures (marks-nothing c.requires (rw c.in_err-w.was at c.find.ensures) refl)
 
 pub overflow_sub-index : goal.overflow_sub-index
 overflow_sub-index c = (c.find.ensures.at _ c.in_ok-w.was).0

@@ -1,10 +1,6 @@
-use mathlib.Core.Path.{refl}
 use native.Mathlib.Omega.{arith}
-use Rattle.state_layout.proofs.Marking.{marks-new-nothing, marks-new-at, marks-new-met}
+use Rattle.state_layout.proofs.Marking.{marks-new-at, marks-new-met}
 use Rattle.state_layout.proofs.marks.mark_new.Goals as goal
-
-pub returns-in_err-w : goal.returns-in_err-w
-returns-in_err-w c = rw c.from_residual.ensures (marks-new-nothing c.requires (rw c.in_err-w.was at c.find.ensures) refl)
 
 pub overflow_sub-m : goal.overflow_sub-m
 overflow_sub-m c = (c.find.ensures.at _ c.in_ok-w.was).0
