@@ -1,16 +1,12 @@
--- What the loops cite: one element more that agrees, and the answer at the first difference.
+-- What `compare` cites: the answer at the first difference.
 -- Assumes nothing.
-use Prim.Native.Nat.{ℕ, min, ◌+◌, ◌-◌, ◌≤◌, ◌<◌}
+use Prim.Native.Nat.{ℕ, min, ◌≤◌, ◌<◌}
 use mathlib.Core.List.{List, ◌++◌}
-use mathlib.Core.Path.{◌≡◌, refl, sym, ap, ◌∙◌}
-use mathlib.Core.Bool.{true}
+use mathlib.Core.Path.{◌≡◌}
 use native.Mathlib.Nat.{add-zero}
-use native.Mathlib.Numerals.{add-one}
 use native.Mathlib.Omega.{arith}
 use lib.ListN.{length, take, drop, get_or, take-append-drop, drop_of_length-le}
-use lib.Seq.{drop-cons, take-suc, take-take, take_all, get_or-take, length-take-le}
-use lib.Dec.{eqb}
-use borrow.Author.Tests.{eqb-true, eq-eqb}
+use lib.Seq.{drop-cons, length-take-le}
 use Rattle.std.specs.declared.cmp.Ordering.{Ordering}
 use Rattle.std.specs.declared.cmp.Ordering.TheVariants.{Less, Equal, Greater}
 use Rattle.std.specs.Ordering.{nat_cmp, MatchOrdering}
@@ -18,29 +14,6 @@ use Rattle.std.proofs.lemmas.Cmp.{ranked}
 use Rattle.order.specs.Lex.{compared}
 use Rattle.order.proofs.Graph.{Compares, ended, shorter, longer, less, greater, only, behind}
 use Rattle.order.proofs.Laws.{FirstDifference, both_end, left-ends, right-ends, below, above}
-
-pub one_more : (a b : List ℕ) (i : ℕ) → take i a ≡ take i b → i < length a → i < length b → get_or a i 0 ≡ get_or b i 0 → take (i + 1) a ≡ take (i + 1) b
-one_more a b i e h k g = rw (add-one, take-suc a i 0, take-suc b i 0) (cc)
-
--- fronts that are the same: shorter ones are too, and so is what stands there
-module _ (a b : List ℕ) where
-  pub shorter-front : (i n : ℕ) → i ≤ n → take n a ≡ take n b → take i a ≡ take i b
-  shorter-front i n h e = sym (take-take i n a h) ∙ ap (λ (l : List ℕ). take i l) e ∙ take-take i n b h
-
-  pub same-there : (i : ℕ) → take (i + 1) a ≡ take (i + 1) b → get_or a i 0 ≡ get_or b i 0
-  same-there i e = sym (get_or-take (i + 1) a i 0 (omega arith)) ∙ ap (λ (l : List ℕ). get_or l i 0) e ∙ get_or-take (i + 1) b i 0 (omega arith)
-
-  -- as long as the lists: all is the same
-  pub all_same : (i : ℕ) → length a ≡ i → length b ≡ i → take i a ≡ take i b → a ≡ b
-  all_same i h k e = sym (take_all i a (omega arith)) ∙ e ∙ take_all i b (omega arith)
-
-  -- whether the last n differ tells whether the lists do, where a front that reaches so far is the same
-  pub last-tells : (n d : ℕ) → length a ≡ length b → n ≤ length a
-      → (d ≡ 0 → take (length a - n + n) a ≡ take (length a - n + n) b) × (take (length a - n + n) a ≡ take (length a - n + n) b → d ≡ 0)
-      → (eqb d 0 ≡ true → a ≡ b) × (a ≡ b → eqb d 0 ≡ true)
-  last-tells n d h k t =
-      let e : length a - n + n ≡ length a = omega arith in
-      (λ z. all_same (length a) refl (sym h) (rw e at (t.0 (eqb-true d 0 z))), λ z. eq-eqb d 0 (t.1 (ap (λ (l : List ℕ). take (length a - n + n) l) z)))
 
 module _ {a b : List ℕ} {n : ℕ} where
   rest : {o : Ordering} → FirstDifference a b n o → Compares (drop n a) (drop n b) o 0

@@ -1,7 +1,7 @@
 // The order of two runs of bytes, and how many bytes agree before it is decided.
 #![tactic(auto)]
 
-ghost use Rattle.std.specs.Prelude.{◌≡◌, true, ◌+◌, ◌<◌, ◌≤◌, min, length, take};
+ghost use Rattle.std.specs.Prelude.{◌≡◌, true, false, ◌+◌, ◌<◌, ◌≤◌, min, length, take};
 ghost use Rattle.order.specs.Lex.{compared};
 
 use std::cmp::Ordering;
@@ -13,15 +13,16 @@ pub struct Compared {
     pub agree: usize,
 }
 
-// 0 just where n bytes more are the same. Where n is a constant, a few vector instructions: counted from 0, so that the number of turns is known.
-fn differ(a: &[u8], b: &[u8], at: usize, n: usize) -> u8
+// Do two lists differ in the n bytes from a position? Where n is a constant, a few vector instructions: counted from 0, so that the number of turns is known.
+// By hand: `!=` of slices takes up to three times as long, and with `|=` in place of the `if`, `same` is a fifth slower.
+fn differ(a: &[u8], b: &[u8], at: usize, n: usize) -> bool
     requires { (at + n ≤ length a.now) × (at + n ≤ length b.now) × (take at a.now ≡ take at b.now) }
-    ensures { (result ≡ 0 → take (at + n) a.now ≡ take (at + n) b.now) × (take (at + n) a.now ≡ take (at + n) b.now → result ≡ 0) }
+    ensures { (result ≡ false → take (at + n) a.now ≡ take (at + n) b.now) × (take (at + n) a.now ≡ take (at + n) b.now → result ≡ false) }
 {
-    let mut d = 0u8;
+    let mut d = false;
     for i in 0..n {
         if a[at + i] != b[at + i] {
-            d = 1;
+            d = true;
         }
     }
     d
@@ -34,9 +35,10 @@ fn same_blocks(a: &[u8], b: &[u8], from: usize, n: usize) -> usize
     ensures { (result ≤ length a.now) × (result ≤ length b.now) × (take result a.now ≡ take result b.now) }
 {
     let end = a.len().min(b.len());
+    // Steps by n.
     let mut at = from;
     while end - at >= n {
-        if differ(a, b, at, n) != 0 {
+        if differ(a, b, at, n) {
             return at;
         }
         at += n;
@@ -45,6 +47,7 @@ fn same_blocks(a: &[u8], b: &[u8], from: usize, n: usize) -> usize
 }
 
 // Whether two byte strings are the same. Where fewer than a block are left, the last block decides, which the one before it overlaps.
+// By hand: std's `==` is slower at 12 to 24 bytes and at 48, by 5 to 15 in 100.
 pub fn same(a: &[u8], b: &[u8]) -> bool
     ensures { (result ≡ true → a.now ≡ b.now) × (a.now ≡ b.now → result ≡ true) }
 {
@@ -54,17 +57,14 @@ pub fn same(a: &[u8], b: &[u8]) -> bool
     }
     let mut at = same_blocks(a, b, 0, 64);
     at = same_blocks(a, b, at, 16);
-    if 16 <= end {
-        if end - 16 <= at {
-            return differ(a, b, end - 16, 16) == 0;
-        }
+    if 16 <= end && end - 16 <= at {
+        return !differ(a, b, end - 16, 16);
     }
     at = same_blocks(a, b, at, 8);
-    if 8 <= end {
-        if end - 8 <= at {
-            return differ(a, b, end - 8, 8) == 0;
-        }
+    if 8 <= end && end - 8 <= at {
+        return !differ(a, b, end - 8, 8);
     }
+    // By index: std's `==` on what is left is faster up to 12 bytes, but slower at 32 and 48, by 5 in 100.
     for i in at..end {
         if a[i] != b[i] {
             return false;
