@@ -154,4 +154,4 @@ module _ {s index : List ℕ} (t : Tabled s index) {b e : Place} (eb : b ≡ tab
             all_asked h = rw (← covered, h)
 
 -- for `validate_slots`
-pub ruleset asked = (within, asked-21, cover-room, cover-held)
+pub ruleset asked = (within, asked-21, asked-22, cover-room, cover-held)
