@@ -4,7 +4,7 @@ use native.Mathlib.Omega.{arith}
 use mathlib.Core.Path.{◌≡◌, refl, sym, ap, ◌∙◌}
 use mathlib.Core.Bool.{Bool, true, false}
 use mathlib.Core.List.{List, [], ◌∷◌, ◌++◌, map}
-use Rattle.std.specs.Prelude.{Ok, Err}
+use Rattle.std.specs.Prelude.{Option, Some, None, Result, Ok, Err, ok_or}
 use Rattle.state.specs.Outcome.{said}
 use Rattle.state.specs.declared.Question.{Question}
 use Rattle.format.specs.Admits.{All}
@@ -86,6 +86,17 @@ pub says-said : (n : ℕ) → (n ≡ 0 → ⊥) → Err (record { 0 = n }) ≡ s
 says-said zero h = absurd (h refl)
 says-said (suc n) h = refl
 
+-- what code answered of one in front of others
+module _ (n : ℕ) {r : Result Unit Question} (is : r ≡ said n) where
+  pub answered-none : {u : Unit} → r ≡ Ok u → n ≡ 0
+  answered-none e = said-yes n (sym is ∙ e)
+
+  pub answered-yes : {u : Unit} → r ≡ Ok u → (qs : List ℕ) → first qs ≡ first (n ∷ qs)
+  answered-yes e qs = sym (none-says-no qs (answered-none e))
+
+  pub answered-no : {d : Question} → r ≡ Err d → (qs : List ℕ) → Err d ≡ said (first (n ∷ qs))
+  answered-no e qs = sym e ∙ is ∙ ap said (one-says-no qs n (said-no n (sym is ∙ e)).1)
+
 -- of a group in front of others
 pub said-group-no : (xs ys : List ℕ) {d : Question} → said (first xs) ≡ Err d → Err d ≡ said (first (xs ++ ys))
 said-group-no xs ys {d = d} e = let p = said-no (first xs) e in sym e ∙ ap said (group-no xs ys refl p.1)
@@ -94,3 +105,19 @@ pub said-group-yes : (xs ys : List ℕ) {u : Unit} → said (first xs) ≡ Ok u 
 said-group-yes xs ys e = ap said (group-yes xs ys refl (said-yes (first xs) e))
 
 pub ruleset in_order = (said-group-no, said-group-yes)
+
+-- ---- what is looked up, and a question that says no where it is not there
+module _ {A : Type 0} (o : Option A) (q : Question) {r : Result A Question} (is : r ≡ ok_or o q) where
+  pub lacked : {p : Question} → r ≡ Err p → (o ≡ None) × (p ≡ q)
+  lacked {p} e = go o is
+    where
+      go : (o : Option A) → r ≡ ok_or o q → (o ≡ None) × (p ≡ q)
+      go (Some x) i = cc
+      go None i = (refl, cc)
+
+  pub had : {x : A} → r ≡ Ok x → o ≡ Some x
+  had {x} e = go o is
+    where
+      go : (o : Option A) → r ≡ ok_or o q → o ≡ Some x
+      go (Some y) i = cc
+      go None i = cc

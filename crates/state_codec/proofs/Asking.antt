@@ -2,11 +2,11 @@
 use Prim.Native.Nat.{ℕ, suc, ◌+◌, ◌-◌, ◌≤◌, ◌<◌, min}
 use native.Mathlib.Omega.{arith}
 use native.Mathlib.Nat.{min-eq_left}
-use mathlib.Core.Path.{◌≡◌, refl, sym, ap, ◌∙◌, subst}
+use mathlib.Core.Path.{◌≡◌, sym, ap, ◌∙◌, subst}
 use mathlib.Core.List.{List, ◌∷◌, map}
 use lib.ListN.{length}
 use borrow.Author.Tests.{eq-eqb, ne_eqb}
-use Rattle.std.specs.Prelude.{Ok, Err}
+use Rattle.std.specs.Prelude.{Result, Ok, Err}
 use Rattle.state.specs.Outcome.{said}
 use Rattle.state.specs.declared.Question.{Question}
 use Rattle.state_wire.specs.Fields.{max_snapshot_bytes}
@@ -19,7 +19,7 @@ use Rattle.format.specs.Values.{values_at, value_at, Well, WellEach}
 use Rattle.format.proofs.Values.{values_length, well-list}
 use Rattle.questions.specs.Sets.{first}
 use Rattle.questions.specs.Declarations.{connector_names}
-use Rattle.questions.proofs.Chains.{said-yes, said-no, says-yes, says-no, first_one, none-says-no, one-says-no}
+use Rattle.questions.proofs.Chains.{answered-yes, answered-no, says-yes, says-no, first_one}
 use Rattle.tail.specs.Tail.{values, value_answer, values_answer}
 use Rattle.state_index.specs.declared.Table.{Table}
 use Rattle.state_layout.specs.Classes.{classes_at}
@@ -66,30 +66,25 @@ module _ (answer : Entry values → ℕ) (t : List ℕ) {to : ℕ} where
       pub asking-well : Well max_snapshot_bytes (entry values) t p
       asking-well = left.0
 
-      module _ {q : ℕ} (e : q ≡ answer (value_at (entry values) t p)) where
-        turned : first (map answer (value_at (counted values) t 0)) ≡ first (q ∷ map answer (values_from t (to - (w + 1)) (past value t (past connector_key t p))))
-        unfolding value_at
-        turned = a.is ∙ rw (next, e)
+      turned : first (map answer (value_at (counted values) t 0)) ≡ first (answer (value_at (entry values) t p) ∷ map answer (values_from t (to - (w + 1)) (past value t (past connector_key t p))))
+      unfolding value_at
+      turned = a.is ∙ rw next
 
+      module _ {r : Result Unit Question} (e : r ≡ said (answer (value_at (entry values) t p))) where
         -- a value that says no is the answer
-        pub asking-no : (q ≡ 0 → ⊥) → q ≡ first (map answer (value_at (counted values) t 0))
-        asking-no n = one-says-no _ q n ∙ sym turned
+        pub asking-stops : {d : Question} → r ≡ Err d → Err d ≡ said (first (map answer (value_at (counted values) t 0)))
+        asking-stops n = answered-no _ e n _ ∙ ap said (sym turned)
 
         -- one that says yes leaves the rest
-        pub asking-next : q ≡ 0 → {k p' : ℕ} → k ≡ past connector_key t p → p' ≡ past value t k → Asking answer t to (w + 1) p'
+        pub asking-on : {u : Unit} → r ≡ Ok u → {k p' : ℕ} → k ≡ past connector_key t p → p' ≡ past value t k → Asking answer t to (w + 1) p'
         unfolding past
-        asking-next z i j = record {
-          is = turned ∙ rw (j, i) (none-says-no _ z);
+        asking-on y i j = record {
+          is = turned ∙ rw (j, i) (sym (answered-yes _ e y _));
           well = rw (j, i) left.1;
         }
 
--- the same as code says it
-module _ (answer : Entry values → ℕ) (t : List ℕ) {to w p : ℕ} (a : Asking answer t to w p) (h : w < to) where
-  pub asking-stops : {d : Question} → Err d ≡ said (answer (value_at (entry values) t p)) → Err d ≡ said (first (map answer (value_at (counted values) t 0)))
-  asking-stops e = e ∙ ap said (asking-no answer t a h refl (said-no (answer (value_at (entry values) t p)) (sym e)).1)
-
-  pub asking-on : {u : Unit} → Ok u ≡ said (answer (value_at (entry values) t p)) → {k p' : ℕ} → k ≡ past connector_key t p → p' ≡ past value t k → Asking answer t to (w + 1) p'
-  asking-on e = asking-next answer t a h refl (said-yes (answer (value_at (entry values) t p)) (sym e))
+-- for `values_answer`
+pub ruleset asking = (asking-well, asking-stops, asking-end)
 
 -- ---- of the manifest
 module _ {s index : List ℕ} (a : Asked s index) {cs ks : Table} (ec : cs ≡ table_at 2 (manifest_of s)) (ek : ks ≡ table_at 4 (manifest_of s)) where
@@ -134,3 +129,6 @@ module _ {s index : List ℕ} (a : Asked s index) {cs ks : Table} (ec : cs ≡ t
     unfolding values_answer
     values-answered h =
         rw (classes-are, connectors-are) (sym (says-yes 33 _ (rw (long, ← connectors-count) (eq-eqb n (ks.to - ks.from) h)) ∙ first_one _))
+
+-- for `validate_values`
+pub ruleset counted_values = (forward, values-miscounted, values-answered)

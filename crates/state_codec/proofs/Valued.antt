@@ -136,3 +136,6 @@ module _ {s index : List ℕ} {classes end from to : ℕ} (t : List ℕ) (at : �
         pub value-right : d ≡ true → 0 ≡ answer
         unfolding ◌unless◌
         value-right m = sym (rest-is ∙ rw m)
+
+-- for `value_answer`
+pub ruleset valued = (value-unknown, value-word, value-other, value-outside, value-right)

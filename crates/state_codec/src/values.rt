@@ -31,6 +31,7 @@ pub(crate) fn read_values(t: &[u8]) -> Step
 }
 
 // Questions 34 to 36 of the value at a position. The word `hint` of the connectors is tried first.
+#[tactic(auto, using(crate::proofs::Valued::valued))]
 fn value_answer(
     s: &[u8],
     index: &[u32],
@@ -60,6 +61,7 @@ fn value_answer(
 }
 
 // The same value by value, as many as connectors; each is looked for first at its own place.
+#[tactic(auto, using(crate::proofs::Asking::asking))]
 fn values_answer(
     s: &[u8],
     index: &[u32],
@@ -82,6 +84,7 @@ fn values_answer(
 }
 
 // Questions 33 to 36 of values that were read.
+#[tactic(auto, using(crate::proofs::Asking::counted_values))]
 pub(crate) fn validate_values(s: &[u8], index: &[u32], t: &[u8]) -> Result<(), Question>
     requires asked { Asked s.now index.now }
     requires are_bytes { AreBytes t.now }

@@ -16,7 +16,7 @@ use Rattle.format.specs.Fields.{enums_of, blocks_of, connectors_of}
 use Rattle.format.specs.Values.{value_at, Well}
 use Rattle.questions.specs.Sets.{all, same_set, ◌unless◌, first}
 use Rattle.questions.specs.Declarations.{has_member, block_answer, block_ports, ports_are, param_classes, classes_are, declarations}
-use Rattle.state_declarations.proofs.Said.{said-yes, said-no}
+use Rattle.questions.proofs.Chains.{answered-yes, answered-no}
 use Rattle.state_index.specs.Sort.{Kept}
 use Rattle.state_index.proofs.Lists.{filled}
 use Rattle.state_index.specs.declared.Table as words
@@ -153,12 +153,12 @@ module _ (m : El manifest) {x : Bool} (ex : x ≡ all has_member (enums_of m)) w
 
     pub says-block : {d : Question} → r ≡ Err d → Err d ≡ said (first (declarations m))
     unfolding declarations first ◌unless◌
-    says-block h = rw (← ex, hx) (sym (said-no (first (map (block_answer (enums_of m)) (blocks_of m))) behind (sym er ∙ h)))
+    says-block h = rw (← ex, hx) (answered-no (first (map (block_answer (enums_of m)) (blocks_of m))) er h behind)
 
     module _ (hr : r ≡ Ok tt) where
       left : first (declarations m) ≡ first behind
       unfolding declarations first ◌unless◌
-      left = rw (← ex, hx) (said-yes (first (map (block_answer (enums_of m)) (blocks_of m))) behind (sym er ∙ hr))
+      left = rw (← ex, hx) (sym (answered-yes (first (map (block_answer (enums_of m)) (blocks_of m))) er hr behind))
 
       module _ {y : Bool} (ey : y ≡ ports_are (blocks_of m) (connectors_of m)) where
         pub says-15 : y ≡ false → Err (record { 0 = 15 }) ≡ said (first (declarations m))

@@ -20,7 +20,7 @@ use Rattle.questions.specs.Sets.{all, first}
 use Rattle.questions.specs.Declarations.{enum_holds, params_hold, port_holds, ports_hold, block_answer}
 use Rattle.state_layout.specs.Classes.{classes_at}
 use Rattle.state_layout.proofs.Tables.{limit}
-use Rattle.state_declarations.proofs.Said.{said-yes, said-no}
+use Rattle.questions.proofs.Chains.{answered-yes, answered-no}
 use Rattle.state_declarations.proofs.Walks.{entries_at, ports_at, PortsWell, ports-list, ports-each, words-next, words-end, words-all}
 
 -- ---- a test of each
@@ -109,11 +109,11 @@ module _ {s index : List ℕ} {from to start end i : ℕ} (h : BlocksLeft s inde
       pub blocks-next : r ≡ Ok tt → BlocksLeft s index from to start end (i + 1)
       blocks-next y = record {
         well = (words-all (Well limit (entry blocks) s) index end i l long e h.well).1;
-        is = sym (said-yes answer rest (sym j ∙ y)) ∙ parted;
+        is = answered-yes answer j y rest ∙ parted;
       }
 
       pub blocks-no : {d : Question} → r ≡ Err d → Err d ≡ said (answers_from s index from to end start)
-      blocks-no n = sym (said-no answer rest (sym j ∙ n)) ∙ ap said parted
+      blocks-no n = answered-no answer j n rest ∙ ap said parted
 
   pub blocks_end : end ≤ i → Ok tt ≡ said (answers_from s index from to end start)
   unfolding first

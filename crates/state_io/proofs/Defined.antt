@@ -15,7 +15,7 @@ use Rattle.format.specs.Places.{past, key_at}
 use Rattle.format.specs.Values.{value_at}
 use Rattle.format.proofs.Lists.{same_refl, same-sym}
 use Rattle.questions.specs.Sets.{all, any, first}
-use Rattle.questions.proofs.Chains.{says-yes, says-no}
+use Rattle.questions.proofs.Chains.{says-yes, says-no, said-group-no, said-group-yes}
 use Rattle.questions.specs.Inputs.{same_type, bound_answer}
 use Rattle.state_index.specs.declared.SortKey.TheVariants.{Text}
 use Rattle.state_index.specs.Keys.{text_at, at_most, sort_key}
@@ -30,7 +30,6 @@ use Rattle.state_index.proofs.Order.{apart, is_false}
 use Rattle.state_layout.specs.Classes.{classes_at}
 use Rattle.state_io.specs.Paths.{words, type_at, definition_at, agree, all_agree, defined_among, answer_among, Sought}
 use Rattle.state_io.proofs.Bools.{all-at, any_at}
-use Rattle.state_io.proofs.Said.{said-group-no, said-group-yes}
 use Rattle.state_io.proofs.Types.{type-sym, type-trans}
 
 -- none where each that a test passes is refused
@@ -117,11 +116,11 @@ module _ (s qs : List ℕ) (at : ℕ) (es : List (Entry enums)) where
         ∙ rw (eb, ea, et) (sym (says-yes 28 _ y))
 
     module _ {z : Result Unit Question} (ez : z ≡ said (first (bounds a))) where
-      pub minimum-refused : {q : Question} → z ≡ Err q → z ≡ said answer
-      minimum-refused i = said-group-no (bounds a) ez i (bounds b) ∙ ap said bounds-answer
+      pub minimum-refused : {q : Question} → z ≡ Err q → Err q ≡ said answer
+      minimum-refused i = said-group-no (bounds a) (bounds b) (sym ez ∙ i) ∙ ap said bounds-answer
 
-      pub maximum-answers : {v : Unit} → z ≡ Ok v → first (bounds b) ≡ answer
-      maximum-answers i = said-group-yes (bounds a) ez i (bounds b) ∙ bounds-answer
+      pub maximum-answers : {v : Unit} → z ≡ Ok v → said (first (bounds b)) ≡ said answer
+      maximum-answers i = sym (said-group-yes (bounds a) (bounds b) (sym ez ∙ i)) ∙ ap said bounds-answer
 
 -- the answer of the definition at a position, by the words of an index
 abbrev pub answer_of : (s index : List ℕ) (classes paths : Table) → ℕ → ℕ

@@ -1,8 +1,7 @@
--- Laws of the definitions: `Bools` of tests of lists, `Said` of answers, `Firsts` of the first answer that says no, `Types` of types that are one,
+-- Laws of the definitions: `Bools` of tests of lists, `Firsts` of the first answer that says no, `Types` of types that are one,
 -- `Neighbours` and `Words` of sorted paths and of the words that have them, `Bounded` of bounds, `Defined` of definitions, `Gathered` of marks
 -- and paths put behind them, `Asked` of the manifest's values behind positions, `Tabled` of its tables.
 pub mod Bools
-pub mod Said
 pub mod Firsts
 pub mod Types
 pub mod Neighbours

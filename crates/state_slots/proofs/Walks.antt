@@ -19,9 +19,8 @@ use Rattle.format.specs.Manifest.{blocks, state_slots}
 use Rattle.format.specs.Places.{key_at}
 use Rattle.questions.specs.Sets.{keep, ◌unless◌, first}
 use Rattle.questions.specs.Declarations.{is_stateful}
-use Rattle.questions.proofs.Chains.{none-says-no, first_one}
+use Rattle.questions.proofs.Chains.{first_one, answered-yes, answered-no, lacked, had}
 use Rattle.state_slots.specs.Walk.{block_at, slot_at, stateful_of, NextStateful, pairwise, same_lists, keys_agree, pair_answer, key_asked, words_asked}
-use Rattle.state_slots.proofs.Said.{said-no, said-none}
 
 -- ---- the next stateful block
 abbrev pub stateful_word : (s index : List ℕ) → ℕ → Bool
@@ -76,21 +75,6 @@ none-is : (o : Option ℕ) → is_some o ≡ false → o ≡ None
 none-is (Some b) e = cc
 none-is None e = refl
 
-module _ (o : Option ℕ) (q : Question) {r : Result ℕ Question} (is : r ≡ ok_or o q) where
-  found-some : {b : ℕ} → r ≡ Ok b → o ≡ Some b
-  found-some {b} e = go o is
-    where
-      go : (o : Option ℕ) → r ≡ ok_or o q → o ≡ Some b
-      go (Some c) i = cc
-      go None i = cc
-
-  not-found : {p : Question} → r ≡ Err p → (o ≡ None) × (p ≡ q)
-  not-found {p} e = go o is
-    where
-      go : (o : Option ℕ) → r ≡ ok_or o q → (o ≡ None) × (p ≡ q)
-      go (Some c) i = cc
-      go None i = (refl, cc)
-
 -- ---- the answer to all is that for the stateful blocks from `block` on and the slots from `slot` on
 pub record Walking (f : ℕ → ℕ → ℕ) (s index : List ℕ) (from to start stop block slot : ℕ) : Type 0 where
   pub is : pairwise f (stateful_of s index from to) (span index start stop) ≡ pairwise f (stateful_of s index block to) (span index slot stop)
@@ -114,22 +98,22 @@ module _ {f : ℕ → ℕ → ℕ} {s index : List ℕ} {from to start stop bloc
   module _ (h : slot < stop) (l : stop ≤ length index) {found : Result ℕ Question} (o : found ≡ ok_or next (record { 0 = 21 })) where
     pub walk-slot : {q : Question} → found ≡ Err q → Err q ≡ said whole
     unfolding pairwise
-    walk-slot e = let p = not-found next _ o e in rw (p.1, g.is, n.none p.0, span-cons index slot stop h l)
+    walk-slot e = let p = lacked next _ o e in rw (p.1, g.is, n.none p.0, span-cons index slot stop h l)
 
     module _ {b : ℕ} (e : found ≡ Ok b) where
       pub walk-here : b < to
-      walk-here = (n.one b (found-some next _ o e)).0
+      walk-here = (n.one b (had next _ o e)).0
 
       module _ {r : Result Unit Question} (a : r ≡ said (f (get_or index b 0) (get_or index slot 0))) where
         turn : whole ≡ first (f (get_or index b 0) (get_or index slot 0) ∷ pairwise f (stateful_of s index (b + 1) to) (span index (slot + 1) stop) ∷ [])
         unfolding pairwise
-        turn = rw (g.is, (n.one b (found-some next _ o e)).1, span-cons index slot stop h l)
+        turn = rw (g.is, (n.one b (had next _ o e)).1, span-cons index slot stop h l)
 
         pub walk-no : {q : Question} → r ≡ Err q → Err q ≡ said whole
-        walk-no i = said-no _ a i _ ∙ ap said (sym turn)
+        walk-no i = answered-no _ a i _ ∙ ap said (sym turn)
 
         pub walk-on : {u : Unit} → r ≡ Ok u → Walking f s index from to start stop (b + 1) (slot + 1)
-        walk-on i = record { is = turn ∙ none-says-no _ (said-none _ a i) ∙ first_one _ }
+        walk-on i = record { is = turn ∙ sym (answered-yes _ a i _) ∙ first_one _ }
 
 -- ---- what is asked of positions is asked of what stands there
 pairwise-map : {A B C D : Type 0} (f : C → D → ℕ) (g : A → C) (h : B → D) (bs : List A) (es : List B) → pairwise (λ b e. f (g b) (h e)) bs es ≡ pairwise f (map g bs) (map h es)

@@ -18,7 +18,7 @@ use Rattle.format.proofs.Pairwise.{ascending-iff}
 use Rattle.questions.specs.Sets.{keep, ◌unless◌, first}
 use Rattle.questions.specs.Declarations.{block_names, is_stateful, declarations}
 use Rattle.questions.specs.Slots.{slot_name, slot_keys_are, slot_answer, words, by_offset, join_from, slots}
-use Rattle.questions.proofs.Chains.{first_one, unless-none}
+use Rattle.questions.proofs.Chains.{first_one, unless-none, answered-none, answered-yes, answered-no}
 use Rattle.questions.proofs.Kept.{all_so, all_of_map, keep_all}
 use Rattle.questions.proofs.Ascends.{Ascends, ascends, keep-ascends}
 use Rattle.questions.proofs.Named.{block_name, Alone, each-alone}
@@ -29,7 +29,6 @@ use Rattle.state_layout.proofs.Names.{keys-are, names-blocks}
 use Rattle.state_slots.specs.Walk.{block_at, slot_at, stateful_of, same_lists, keys_agree, pairwise, pair_answer, key_asked, words_asked, Held, Room}
 use Rattle.state_slots.proofs.Lists.{keep-map, keep-alike}
 use Rattle.state_slots.proofs.Agree.{lists-same, same_set-lists}
-use Rattle.state_slots.proofs.Said.{said-no, said-none, said-yes}
 use Rattle.state_slots.proofs.Walks.{keys-asked, words-asked}
 use Rattle.state_slots.proofs.Answers.{blocks-some, slot-answers, pairs-none}
 
@@ -93,12 +92,12 @@ module _ {s index : List ℕ} (t : Tabled s index) {b e : Place} (eb : b ≡ tab
   module _ {r : Result Unit Question} (er : r ≡ said (pairwise (key_asked s) stateful slots_words)) where
     pub asked-21 : {q : Question} → r ≡ Err q → Err q ≡ said (first (slots (manifest_of s)))
     unfolding slots
-    asked-21 h = said-no _ (er ∙ ap said keys-answer) h _
+    asked-21 h = answered-no _ (er ∙ ap said keys-answer) h _
 
     -- ---- 22 and 23
     module _ {u : Unit} (h : r ≡ Ok u) where
       names : map slot_name ss ≡ map block_name (keep is_stateful bs)
-      names = lists-same (map slot_name ss) (map block_name (keep is_stateful bs)) (sym agreed ∙ unless-none 20 _ (sym (keys-asked s stateful slots_words) ∙ said-none _ er h))
+      names = lists-same (map slot_name ss) (map block_name (keep is_stateful bs)) (sym agreed ∙ unless-none 20 _ (sym (keys-asked s stateful slots_words) ∙ answered-none _ er h))
 
       paired : pairwise (words_asked s) stateful slots_words ≡ pairwise pair_answer (keep is_stateful bs) ss
       paired = words-asked s stateful slots_words ∙ rw (stateful-values, of_slots.values)
@@ -109,22 +108,22 @@ module _ {s index : List ℕ} (t : Tabled s index) {b e : Place} (eb : b ≡ tab
           ∙ sym (slot-answers bs (keep is_stateful bs) ss (all_so (λ b h. h.0) (keep is_stateful bs) (keep_all is_stateful (Alone block_name bs) bs (each-alone block_name bs blocks-ascend))) names)
 
       to_slots : (qs : List ℕ) → first (first (map (slot_answer bs) ss) ∷ qs) ≡ first (21 unless (slot_keys_are ss bs) ∷ first (map (slot_answer bs) ss) ∷ qs)
-      to_slots qs = said-yes _ (er ∙ ap said keys-answer) h (first (map (slot_answer bs) ss) ∷ qs)
+      to_slots qs = answered-yes _ (er ∙ ap said keys-answer) h (first (map (slot_answer bs) ss) ∷ qs)
 
       module _ {r' : Result Unit Question} (er' : r' ≡ said (pairwise (words_asked s) stateful slots_words)) where
         pub asked-22 : {q : Question} → r' ≡ Err q → Err q ≡ said (first (slots (manifest_of s)))
         unfolding slots
-        asked-22 k = said-no _ (er' ∙ ap said slots-answer) k _ ∙ ap said (to_slots _)
+        asked-22 k = answered-no _ (er' ∙ ap said slots-answer) k _ ∙ ap said (to_slots _)
 
         -- ---- 24
         module _ {u' : Unit} (h' : r' ≡ Ok u') where
           to-cover : (q : ℕ) → q ≡ first (21 unless (slot_keys_are ss bs) ∷ first (map (slot_answer bs) ss) ∷ q ∷ [])
-          to-cover q = sym (first_one q) ∙ said-yes _ (er' ∙ ap said slots-answer) h' (q ∷ []) ∙ to_slots (q ∷ [])
+          to-cover q = sym (first_one q) ∙ answered-yes _ (er' ∙ ap said slots-answer) h' (q ∷ []) ∙ to_slots (q ∷ [])
 
           module _ (d : first (declarations (manifest_of s)) ≡ 0) {top : ℕ} (eu : top ≡ room_start s) where
             all_held : All Held ss
             all_held =
-                pairs-none (keep is_stateful bs) ss names (sym paired ∙ said-none _ er' h')
+                pairs-none (keep is_stateful bs) ss names (sym paired ∙ answered-none _ er' h')
                 (all_so (λ b h. h.0 h.1) (keep is_stateful bs) (keep_all is_stateful (λ b. is_stateful b ≡ true → 0 < state_len b) bs (blocks-some (manifest_of s) d)))
 
             pub cover-room : Room s index e.from e.to top
@@ -155,4 +154,4 @@ module _ {s index : List ℕ} (t : Tabled s index) {b e : Place} (eb : b ≡ tab
             all_asked h = rw (← covered, h)
 
 -- for `validate_slots`
-pub ruleset asked = (within, asked-21, cover-room, cover-held)
+pub ruleset asked = (within, asked-21, asked-22, cover-room, cover-held)

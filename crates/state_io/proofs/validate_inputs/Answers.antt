@@ -1,4 +1,4 @@
-use Rattle.state_io.proofs.Said.{lacked, had}
+use Rattle.questions.proofs.Chains.{lacked, had}
 use Rattle.state_io.proofs.Tabled.{Placed, placed, connectors-keyed, classes-new, paths-fit, definitions-fit, sought, leaves, refused-27, refused-28, each-answers}
 use Rattle.std.proofs.lemmas.Result.{err_from_is_err_and}
 use native.Mathlib.Omega.{arith}

@@ -1,10 +1,10 @@
 use Rattle.state.specs.Outcome.{said}
 use Rattle.state_io.specs.Paths.{words, definition_at, defined_among}
-use Rattle.state_io.proofs.Said.{lacked, had}
+use Rattle.questions.proofs.Chains.{lacked, had}
 use Rattle.state_io.proofs.Defined.{seek-order, not_found, undefined, decided, minimum-refused, maximum-answers}
 use Rattle.std.proofs.lemmas.Result.{err_from_is_err_and}
 use native.Mathlib.Omega.{arith}
-use mathlib.Core.Path.{◌≡◌, sym, ap, ◌∙◌}
+use mathlib.Core.Path.{◌≡◌, ap, ◌∙◌}
 use Rattle.state_io.proofs.definitions.definition_answer.Goals as goal
 use Rattle.state_io.proofs.definitions.definition_answer.Goals.{After-same_type}
 
@@ -33,11 +33,10 @@ pub returns-in_err-bound_answer : goal.returns-in_err-bound_answer
 returns-in_err-bound_answer c =
     let p = err_from_is_err_and c.from_residual-in_err-bound_answer.result c.from_residual-in_err-bound_answer.ensures.1 in
     let y = is-defined (goal.at.returns-in_err-bound_answer c).After-same_type ∙ c.if-not-same_type.false in
-    let w = c.in_err-bound_answer.was in
-    rw (p.1, p.2) (sym w ∙ minimum-refused _ _ _ _ y c.text_end-t.ensures c.type_end-minimum.ensures c.bound_end-maximum.ensures c.bound_answer.ensures w)
+    rw (p.1, p.2) (minimum-refused _ _ _ _ y c.text_end-t.ensures c.type_end-minimum.ensures c.bound_end-maximum.ensures c.bound_answer.ensures c.in_err-bound_answer.was)
 
 pub returns : goal.returns
 returns c =
     let y = is-defined (goal.at.returns c).After-same_type ∙ c.if-not-same_type.false in
     c.bound_answer-2.ensures
-    ∙ ap said (maximum-answers _ _ _ _ y c.text_end-t.ensures c.type_end-minimum.ensures c.bound_end-maximum.ensures c.bound_answer.ensures c.in_ok-bound_answer.was)
+    ∙ maximum-answers _ _ _ _ y c.text_end-t.ensures c.type_end-minimum.ensures c.bound_end-maximum.ensures c.bound_answer.ensures c.in_ok-bound_answer.was
