@@ -62,19 +62,36 @@ fn print_keys(rt: &impl Print, keys: KeysCompared) -> io::Result<()> {
     }
 }
 
-fn text_line(rt: &impl Print, s: &[u8], at: usize, room: &mut [u8]) -> io::Result<()> {
-    let n = bytes(s, at, room);
-    let valid = text::valid_up_to(part(room, 0, n));
-    println!(rt; "{valid}")
+// A line, by the whole input and where the first word behind its letter stands. Its words count from 0.
+#[derive(Clone, Copy)]
+struct Line<'a> {
+    input: &'a [u8],
+    first: usize,
 }
 
-fn string_line(rt: &impl Print, s: &[u8], first: usize, room: &mut [u8]) -> io::Result<()> {
-    let second = after_word(s, first);
-    let n = bytes(s, after_word(s, second), room);
-    print_step(
-        rt,
-        state_wire::string_bounded(part(room, 0, n), position(s, second), position(s, first)),
-    )
+impl<'a> Line<'a> {
+    // Where a word stands.
+    fn word(&self, n: usize) -> usize {
+        let mut at = self.first;
+        for _ in 0..n {
+            at = after_word(self.input, at);
+        }
+        at
+    }
+
+    fn number(&self, n: usize) -> u64 {
+        number(self.input, self.word(n))
+    }
+
+    fn position(&self, n: usize) -> usize {
+        position(self.input, self.word(n))
+    }
+
+    // The bytes of a HEX, in the room that is lent for them.
+    fn hex<'b>(&self, n: usize, room: &'b mut [u8]) -> &'b [u8] {
+        let len = bytes(self.input, self.word(n), room);
+        part(room, 0, len)
+    }
 }
 
 fn print_hex(rt: &impl Print, s: &[u8]) -> io::Result<()> {
@@ -87,18 +104,25 @@ fn print_hex(rt: &impl Print, s: &[u8]) -> io::Result<()> {
     println!(rt)
 }
 
-fn string_text_line(rt: &impl Print, s: &[u8], first: usize, room: &mut [u8]) -> io::Result<()> {
-    let second = after_word(s, first);
-    let n = bytes(s, after_word(s, second), room);
-    print_hex(
-        rt,
-        state_wire::string_text(part(room, 0, n), position(s, second), position(s, first)),
-    )
+fn text_line(rt: &impl Print, line: Line, room: &mut [u8]) -> io::Result<()> {
+    let valid = text::valid_up_to(line.hex(0, room));
+    println!(rt; "{valid}")
 }
 
-fn offset_line(rt: &impl Print, s: &[u8], first: usize) -> io::Result<()> {
-    let at = position(s, after_word(s, first));
-    let offset = state_wire::offset(number(s, first), at);
+fn string_line(rt: &impl Print, line: Line, room: &mut [u8]) -> io::Result<()> {
+    let limit = line.position(0);
+    let at = line.position(1);
+    print_step(rt, state_wire::string_bounded(line.hex(2, room), at, limit))
+}
+
+fn string_text_line(rt: &impl Print, line: Line, room: &mut [u8]) -> io::Result<()> {
+    let limit = line.position(0);
+    let at = line.position(1);
+    print_hex(rt, state_wire::string_text(line.hex(2, room), at, limit))
+}
+
+fn offset_line(rt: &impl Print, line: Line) -> io::Result<()> {
+    let offset = state_wire::offset(line.number(0), line.position(1));
     println!(rt; "{offset}")
 }
 
@@ -110,35 +134,26 @@ fn read_number(s: &[u8], at: usize, width: u64) -> Field {
     }
 }
 
-fn number_line(rt: &impl Print, s: &[u8], first: usize, room: &mut [u8]) -> io::Result<()> {
-    let second = after_word(s, first);
-    let n = bytes(s, after_word(s, second), room);
+fn number_line(rt: &impl Print, line: Line, room: &mut [u8]) -> io::Result<()> {
+    let width = line.number(0);
+    let at = line.position(1);
+    print_number(rt, read_number(line.hex(2, room), at, width))
+}
+
+fn count_line(rt: &impl Print, line: Line, room: &mut [u8]) -> io::Result<()> {
+    let count = line.number(0);
+    let least = line.number(1);
+    let at = line.position(2);
     print_number(
         rt,
-        read_number(part(room, 0, n), position(s, second), number(s, first)),
+        state_wire::bounded_count(line.hex(3, room), at, count, least),
     )
 }
 
-fn count_line(rt: &impl Print, s: &[u8], first: usize, room: &mut [u8]) -> io::Result<()> {
-    let second = after_word(s, first);
-    let third = after_word(s, second);
-    let n = bytes(s, after_word(s, third), room);
-    let count = number(s, first);
-    let least = number(s, second);
-    print_number(
-        rt,
-        state_wire::bounded_count(part(room, 0, n), position(s, third), count, least),
-    )
-}
-
-fn tag_line(rt: &impl Print, s: &[u8], first: usize, room: &mut [u8]) -> io::Result<()> {
-    let second = after_word(s, first);
-    let n = bytes(s, after_word(s, second), room);
-    let known = (number(s, first) % 256) as u8;
-    print_number(
-        rt,
-        state_wire::read_tag(part(room, 0, n), position(s, second), known),
-    )
+fn tag_line(rt: &impl Print, line: Line, room: &mut [u8]) -> io::Result<()> {
+    let known = (line.number(0) % 256) as u8;
+    let at = line.position(1);
+    print_number(rt, state_wire::read_tag(line.hex(2, room), at, known))
 }
 
 fn compare(rt: &impl Print, op: u8, a: &[u8], b: &[u8]) -> io::Result<()> {
@@ -149,60 +164,33 @@ fn compare(rt: &impl Print, op: u8, a: &[u8], b: &[u8]) -> io::Result<()> {
     }
 }
 
-fn pair_line(
-    rt: &impl Print,
-    op: u8,
-    s: &[u8],
-    first: usize,
-    room: &mut [u8],
-    other: &mut [u8],
-) -> io::Result<()> {
-    let second = after_word(s, first);
-    let n = bytes(s, first, room);
-    let m = bytes(s, second, other);
-    compare(rt, op, part(room, 0, n), part(other, 0, m))
-}
-
-// The answer to a line, by its first letter and where its first word stands.
+// The answer to a line, by its first letter.
 fn answer(
     rt: &impl Print,
     op: u8,
-    s: &[u8],
-    first: usize,
+    line: Line,
     room: &mut [u8],
     other: &mut [u8],
 ) -> io::Result<()> {
     match op {
-        b't' => text_line(rt, s, first, room),
-        b's' => string_line(rt, s, first, room),
-        b'x' => string_text_line(rt, s, first, room),
-        b'f' => offset_line(rt, s, first),
-        b'n' => number_line(rt, s, first, room),
-        b'c' => count_line(rt, s, first, room),
-        b'g' => tag_line(rt, s, first, room),
-        _ => pair_line(rt, op, s, first, room, other),
+        b't' => text_line(rt, line, room),
+        b's' => string_line(rt, line, room),
+        b'x' => string_text_line(rt, line, room),
+        b'f' => offset_line(rt, line),
+        b'n' => number_line(rt, line, room),
+        b'c' => count_line(rt, line, room),
+        b'g' => tag_line(rt, line, room),
+        _ => compare(rt, op, line.hex(0, room), line.hex(1, other)),
     }
-}
-
-// The answer to the line at a position, if one begins there.
-fn line_at(
-    rt: &impl Print,
-    begins: bool,
-    s: &[u8],
-    at: usize,
-    room: &mut [u8],
-    other: &mut [u8],
-) -> io::Result<()> {
-    if !begins || s.len() <= at {
-        return Ok(());
-    }
-    answer(rt, s[at], s, after_word(s, at), room, other)
 }
 
 fn lines(rt: &impl Print, s: &[u8], room: &mut [u8], other: &mut [u8]) -> io::Result<()> {
     let mut begins = true;
     for (i, byte) in s.iter().enumerate() {
-        line_at(rt, begins, s, i, room, other)?;
+        if begins {
+            let first = after_word(s, i);
+            answer(rt, *byte, Line { input: s, first }, room, other)?;
+        }
         begins = *byte == b'\n';
     }
     Ok(())
