@@ -1,6 +1,8 @@
 // The types that all crates share: answers, the section starts, and the numbers that stand on the wire.
 #![tactic(auto)]
 
+ghost use Rattle.std.specs.Prelude.{◌≡◌};
+
 use std::fmt;
 
 // The longest manifest, and the highest limit of a string.
@@ -14,6 +16,15 @@ impl fmt::Display for Question {
     fn fmt<W: fmt::Write>(&self, f: &mut fmt::Formatter<W>) -> fmt::Result {
         let number = self.0;
         write!(f, "{number}")
+    }
+}
+
+impl Question {
+    // This question, answered no at a place.
+    pub fn at<P: Drop>(self, at: P) -> Refusal<P>
+        ensures { result ≡ record { question = self; at = at } }
+    {
+        Refusal { question: self, at }
     }
 }
 
@@ -61,6 +72,18 @@ pub struct Difference {
     pub part: u8,
     pub entry: usize,
     pub inner: usize,
+}
+
+impl fmt::Display for Difference {
+    fn fmt<W: fmt::Write>(&self, f: &mut fmt::Formatter<W>) -> fmt::Result {
+        let Difference {
+            section,
+            part,
+            entry,
+            inner,
+        } = *self;
+        write!(f, "{section} {part} {entry} {inner}")
+    }
 }
 
 // What comparing comes to: nothing differs, or this does first.
