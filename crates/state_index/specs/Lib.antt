@@ -3,3 +3,4 @@ pub mod Keys
 pub mod Sort
 pub mod Find
 pub mod Sift
+pub mod Words

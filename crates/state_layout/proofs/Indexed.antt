@@ -3,7 +3,7 @@ use Prim.Native.Nat.{ℕ, zero, suc, ◌+◌, ◌*◌, ◌-◌, ◌^◌, ◌≤�
 use native.Mathlib.Omega.{arith}
 use mathlib.Core.Path.{◌≡◌, refl, sym, ap, ◌∙◌}
 use mathlib.Core.List.{List, [], ◌∷◌, ◌++◌, map}
-use lib.ListN.{length, get_or, take, drop, get_or-append}
+use lib.ListN.{length, get_or, take, drop, get_or-append, length-take}
 use lib.Seq.{drop_at, take-take, get_or-take}
 use Rattle.state.specs.Bytes.{span}
 use Rattle.format.specs.Format.{El}
@@ -18,7 +18,7 @@ use Rattle.format.proofs.Values.{values_length, well-then}
 use Rattle.state_index.proofs.Lists.{slice-run}
 use Rattle.state_index.specs.Sort.{Kept}
 use Rattle.questions.specs.Sets.{sum}
-use Rattle.state_layout.specs.Tables.{manifest_of, counts, table_start, table_of, room_start, Tabled, Table, Leaves}
+use Rattle.state_layout.specs.Tables.{manifest_of, counts, table_start, table_of, room_start, Laid, Tabled, Table, Leaves}
 use Rattle.state_layout.proofs.Tables.{limit, Tables, lists-tables, pick, picked, span-after, table-picked}
 
 -- ---- words of the index
@@ -35,7 +35,7 @@ sum-le (n ∷ ns) zero j h = omega arith
 sum-le (n ∷ ns) (suc i) zero h = absurd (omega arith)
 sum-le (n ∷ ns) (suc i) (suc j) h = omega (arith, sum-le ns i j (omega arith))
 
-module _ {s index : List ℕ} (t : Tabled s index) where
+module _ {s index : List ℕ} (t : Laid s index) where
   entries-tables : unfold manifest in Tables s t.bytes lists (manifest_entries limit s) (manifest_of s).1
   unfolding manifest manifest_entries value_at
   entries-tables =
@@ -154,14 +154,39 @@ half : (n l a : ℕ) → index_words n ≤ l → 2 * a ≤ n + 31 → a ≤ l
 half n l a h k = omega arith
 
 -- half as many words as there are bytes, and some
-pub room-bytes : {s index : List ℕ} → Tabled s index → 2 * room_end s ≤ length s + 31
-room-bytes {s} {index} t =
-    let size = sections-take limit s t.well.reads in
+sizes : {s : List ℕ} → Well limit manifest s 0 → past manifest s 0 ≡ length s → 2 * room_end s ≤ length s + 31
+sizes {s} w e =
+    let size = sections-take limit s w.reads in
     let row = all-rows (manifest_of s) in
-    rw (row, ← t.whole) (omega (arith, size))
+    rw (row, ← e) (omega (arith, size))
+
+pub room-bytes : {s index : List ℕ} → Laid s index → 2 * room_end s ≤ length s + 31
+room-bytes t = sizes t.well t.whole
 
 pub room : {s index : List ℕ} → Tabled s index → room_end s ≤ length index
-room {s} {index} t = half (length s) (length index) _ t.long (room-bytes t)
+room {s} {index} t = half (length s) (length index) _ t.long (sizes t.well t.whole)
+
+-- ---- the tables alone
+pub laid_of : {s index : List ℕ} → Tabled s index → Laid s index
+laid_of t = record { bytes = t.bytes; short = t.short; well = t.well; whole = t.whole; there = omega (arith, room t); words = t.words }
+
+-- split off from the room behind them
+pub laid_front : {s index : List ℕ} → Tabled s index → Laid s (take (room_start s) index)
+laid_front {s} {index} t = record {
+  bytes = t.bytes;
+  short = t.short;
+  well = t.well;
+  whole = t.whole;
+  there = omega (arith, length-take (room_start s) index, room t);
+  words = take-take (room_start s) (room_start s) index (omega arith) ∙ t.words;
+}
+
+-- whatever becomes of the room
+pub leaves_front : {s old new : List ℕ} → Tabled s old → take (room_start s) new ≡ take (room_start s) old → length new ≡ length old → Leaves s old new
+leaves_front t e l = record {
+  tabled = record { bytes = t.bytes; short = t.short; well = t.well; whole = t.whole; words = e ∙ t.words; long = rw l t.long };
+  long = l;
+}
 
 -- ---- the tables stay
 pub leaves_all : {s index : List ℕ} → Tabled s index → Leaves s index index
@@ -205,32 +230,33 @@ pub start-le : (m : El manifest) (k : ℕ) → k ≤ 13 → table_start k m ≤ 
 unfolding manifest table_start
 start-le m k h = omega (arith, sum-le (counts lists m.1) (k - 2) 11 (omega arith))
 
+pub start_next : (m : El manifest) (k : ℕ) → k ≤ 12 → table_start k m ≤ table_start (suc k) m
+unfolding manifest table_start
+start_next m k h = omega (arith, sum-le (counts lists m.1) (k - 2) (suc k - 2) (omega arith))
+
 -- every table stands within the index
-pub start-there : {s index : List ℕ} → Tabled s index → (k : ℕ) → k ≤ 13 → table_start k (manifest_of s) ≤ length index
-start-there {s} t k h = omega (arith, room t, start-le (manifest_of s) k h)
+pub start_there : {s index : List ℕ} → Laid s index → (k : ℕ) → k ≤ 13 → table_start k (manifest_of s) ≤ length index
+start_there {s} t k h = omega (arith, t.there, start-le (manifest_of s) k h)
 
 -- ---- the loop that adds up the counts of the sections before one
 pub record Reaching (s index : List ℕ) (section w k : ℕ) : Type 0 where
-  pub tabled : Tabled s index
+  pub laid : Laid s index
   pub bound : section ≤ 13
   pub from : 2 ≤ k
   pub below : k ≤ 2 + (section - 2)
   pub is : w ≡ table_start k (manifest_of s)
 
 module _ {s index : List ℕ} where
-  pub reach_start : (section : ℕ) → Tabled s index → section ≤ 13 → Reaching s index section 12 2
-  reach_start section t h = record { tabled = t; bound = h; from = omega arith; below = omega arith; is = sym (rows (manifest_of s)).first }
+  pub reach_start : (section : ℕ) → Laid s index → section ≤ 13 → Reaching s index section 12 2
+  reach_start section t h = record { laid = t; bound = h; from = omega arith; below = omega arith; is = sym (rows (manifest_of s)).first }
 
-  pub words-there : Tabled s index → room_start s ≤ length index
-  words-there t = omega (arith, room t)
-
-  starts-list : Tabled s index → (i : ℕ) → get_or (manifest_starts limit s) (suc i) 0 ≡ get_or (section_starts limit (map counted lists) s (past portability s 0)) i 0
+  starts-list : Laid s index → (i : ℕ) → get_or (manifest_starts limit s) (suc i) 0 ≡ get_or (section_starts limit (map counted lists) s (past portability s 0)) i 0
   unfolding manifest manifest_starts section_starts
   starts-list t i =
       ap (λ (q : ℕ). get_or (section_starts limit (map counted lists) s q) i 0)
       (end-got limit portability s 0 (well-then limit s portability (sequence (map counted lists)) 0 t.well).0.reads)
 
-  word-there : Tabled s index → (i : ℕ) → i < 11 → get_or index (suc i) 0 ≡ get_or (section_starts limit (map counted lists) s (past portability s 0)) i 0
+  word-there : Laid s index → (i : ℕ) → i < 11 → get_or index (suc i) 0 ≡ get_or (section_starts limit (map counted lists) s (past portability s 0)) i 0
   word-there t i h =
       sym (get_or-take (room_start s) index (suc i) 0 (omega (arith, all-rows (manifest_of s))))
       ∙ ap (λ l. get_or l (suc i) 0) t.words
@@ -238,7 +264,7 @@ module _ {s index : List ℕ} where
       ∙ starts-list t i
 
   -- the section whose place is i among the lists counts as many entries as its table has words
-  count-there : Tabled s index → (i : ℕ) → i < 11 → table_start (3 + i) (manifest_of s) ≡ table_start (2 + i) (manifest_of s) + number_at 4 s (get_or index (suc i) 0)
+  count-there : Laid s index → (i : ℕ) → i < 11 → table_start (3 + i) (manifest_of s) ≡ table_start (2 + i) (manifest_of s) + number_at 4 s (get_or index (suc i) 0)
   unfolding manifest table_start value_at
   count-there t i h =
       let c = lists-counts s lists (past portability s 0) (well-then limit s portability (sequence (map counted lists)) 0 t.well).1 i (omega arith) in
@@ -251,9 +277,9 @@ module _ {s index : List ℕ} where
       let i : k ≡ 2 + (k - 2) = omega (arith, r.from) in
       let j : k - 1 ≡ suc (k - 2) = omega (arith, r.from) in
       let l : k + 1 ≡ 3 + (k - 2) = omega (arith, r.from) in
-      let c = count-there r.tabled (k - 2) (omega (arith, r.bound)) in
+      let c = count-there r.laid (k - 2) (omega (arith, r.bound)) in
       record {
-        tabled = r.tabled;
+        laid = r.laid;
         bound = r.bound;
         from = omega (arith, r.from);
         below = omega (arith, r.below);
@@ -268,4 +294,8 @@ module _ {s index : List ℕ} where
   pub reach_fits : {section w k : ℕ} → Reaching s index section w k → w < 2 ^ 64
   reach_fits {section} {w} {k} r =
       let e : w ≤ room_start s = rw r.is (start-le (manifest_of s) k (omega (arith, r.below, r.bound))) in
-      omega (arith, room-bytes r.tabled, r.tabled.short)
+      omega (arith, room-bytes r.laid, r.laid.short)
+
+  -- the word that says where a section starts is in front of all tables
+  pub reach_word : {section w k : ℕ} → Reaching s index section w k → k < section → k - 1 < length index
+  reach_word {section} {w} {k} r h = omega (arith, all-rows (manifest_of s), r.laid.there, r.bound)

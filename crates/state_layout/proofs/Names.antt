@@ -1,5 +1,5 @@
 -- The keys of a section's entries, as they stand and as they are written.
-use Prim.Native.Nat.{ℕ, suc, ◌+◌, ◌-◌, ◌≤◌, ◌<◌}
+use Prim.Native.Nat.{ℕ, zero, suc, ◌+◌, ◌-◌, ◌≤◌, ◌<◌}
 use native.Mathlib.Omega.{arith}
 use mathlib.Core.Path.{◌≡◌, refl, ap, ◌∙◌}
 use mathlib.Core.Bool.{true, not}
@@ -10,7 +10,7 @@ use Rattle.format.specs.Lists.{before}
 use Rattle.format.specs.Format.{encode}
 use Rattle.format.specs.Admits.{All, shown}
 use Rattle.format.specs.Pairwise.{Ascending}
-use Rattle.format.specs.Manifest.{Section, entry, enums, blocks, connectors}
+use Rattle.format.specs.Manifest.{Section, entry, enums, blocks, connectors, numbered}
 use Rattle.format.specs.Fields.{Entry, enum_path, block_key_of, connector_key_of}
 use Rattle.format.specs.Places.{key_at}
 use Rattle.format.specs.Values.{value_at, Well}
@@ -20,7 +20,9 @@ use Rattle.questions.specs.Declarations.{block_names, connector_names}
 use Rattle.state_index.specs.Sort.{Below, Ordered}
 use Rattle.state_index.specs.Find.{key_at_most}
 use Rattle.state_index.proofs.Order.{leq-total}
-use Rattle.state_layout.specs.Tables.{Table}
+use Rattle.state_layout.specs.Tables.{Table, Laid, table_of}
+use Rattle.state_layout.specs.Keys.{Ascends}
+use Rattle.state_layout.proofs.Indexed.{table-enums, table-blocks, table-connectors}
 use Rattle.state_layout.specs.Marks.{Keyed}
 use Rattle.state_layout.proofs.Tables.{limit}
 
@@ -58,6 +60,25 @@ module _ {e : Section} {s : List ℕ} (index : List ℕ) {vs : List (Entry e)} (
     below = b;
     fits = l;
   }
+
+-- ---- the three sections whose keys ascend
+keys-ascend : (e : Section) {s ps : List ℕ} {vs : List (Entry e)} → AreBytes s → Rises e.rule → Table e s ps vs → Ascends e s ps
+keys-ascend e {s} {ps} bytes rises t =
+    let a : Ascending (map (key_at e s) ps) = rw (keys-are e s bytes t) ((ascending-iff e.rule rises _).0 t.order) in
+    let ks = map (key_at e s) ps in
+    (ascending-ordered e s ps a, (different-iff ks).1 (ascending-different ks a))
+
+pub laid_ascends : {s index : List ℕ} → Laid s index → (k : ℕ) → 2 ≤ k → k ≤ 4 → Ascends (numbered k) s (table_of k s index)
+unfolding numbered
+laid_ascends {s} {index} t k h l = by-case k h l
+  where
+    by-case : (k : ℕ) → 2 ≤ k → k ≤ 4 → Ascends (numbered k) s (table_of k s index)
+    by-case zero h l = absurd (omega arith)
+    by-case (suc zero) h l = absurd (omega arith)
+    by-case (suc (suc zero)) h l = keys-ascend enums t.bytes tt (table-enums t)
+    by-case (suc (suc (suc zero))) h l = keys-ascend blocks t.bytes tt (table-blocks t)
+    by-case (suc (suc (suc (suc zero)))) h l = keys-ascend connectors t.bytes tt (table-connectors t)
+    by-case (suc (suc (suc (suc (suc k))))) h l = absurd (omega arith)
 
 -- ---- names
 pub names-blocks : {s ps : List ℕ} {vs : List (Entry blocks)} → AreBytes s → Table blocks s ps vs → map (key_at blocks s) ps ≡ block_names vs

@@ -2,3 +2,4 @@
 pub mod Tables
 pub mod Marks
 pub mod Classes
+pub mod Keys

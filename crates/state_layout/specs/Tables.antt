@@ -38,6 +38,15 @@ table_of k s index = span index (table_start k (manifest_of s)) (table_start (su
 abbrev pub room_start : List ℕ → ℕ
 room_start s = table_start 13 (manifest_of s)
 
+-- words that begin with the tables of a manifest that was read
+pub record Laid (s index : List ℕ) : Type 0 where
+  pub bytes : AreBytes s
+  pub short : length s ≤ max_snapshot_bytes
+  pub well : Well max_snapshot_bytes manifest s 0
+  pub whole : past manifest s 0 ≡ length s
+  pub there : room_start s ≤ length index
+  pub words : take (room_start s) index ≡ manifest_starts max_snapshot_bytes s ++ manifest_entries max_snapshot_bytes s
+
 -- an index as `read_manifest` leaves it where it refuses nothing
 pub record Tabled (s index : List ℕ) : Type 0 where
   pub bytes : AreBytes s

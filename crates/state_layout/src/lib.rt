@@ -3,6 +3,7 @@
 
 pub mod ends;
 pub mod hints;
+pub mod keys;
 pub mod marks;
 
 ghost use Rattle.std.specs.Prelude.{◌≡◌, ◌≤◌};
@@ -10,7 +11,7 @@ ghost use Rattle.format.specs.Manifest.{value_type, value, enums};
 ghost use Rattle.format.specs.Values.{value_at};
 ghost use Rattle.questions.specs.Declarations.{enum_holds};
 ghost use Rattle.questions.specs.Inputs.{same_type};
-ghost use Rattle.state_layout.specs.Tables.{Tabled, table_start, table_at, manifest_of};
+ghost use Rattle.state_layout.specs.Tables.{Laid, Tabled, table_start, table_at, table_of, room_start, manifest_of};
 ghost use Rattle.state_layout.specs.Marks.{Keyed};
 ghost use Rattle.state_layout.specs.Classes.{classes_at};
 
@@ -50,8 +51,8 @@ pub fn validate_value_enum(s: &[u8], index: &[u32], classes: Table, t: &[u8], at
 
 // From which word of the index on the entries of a section stand; those of section 13 would stand behind all others.
 #[tactic(auto, using(crate::proofs::Indexed::reach_start, crate::proofs::Indexed::reach_next, crate::proofs::Indexed::reach_end))]
-pub fn table_start(s: &[u8], index: &[u32], section: u8) -> usize
-    requires tabled { Tabled s.now index.now }
+fn start_of(s: &[u8], index: &[u32], section: u8) -> usize
+    requires laid { Laid s.now index.now }
     requires section_bound { section ≤ 13 }
     ensures { result ≡ table_start section (manifest_of s.now) }
 {
@@ -60,6 +61,47 @@ pub fn table_start(s: &[u8], index: &[u32], section: u8) -> usize
         w += count_at(s, word_at(index, usize::from(k) - 1));
     }
     w
+}
+
+// Where the room behind all tables begins.
+pub fn room_start(s: &[u8], index: &[u32]) -> usize
+    requires { Laid s.now index.now }
+    ensures { result ≡ room_start s.now }
+{
+    start_of(s, index, 13)
+}
+
+// Where the table of a section lies.
+pub(crate) fn table_in(s: &[u8], index: &[u32], section: u8) -> Table
+    requires laid { Laid s.now index.now }
+    requires section_bound { section ≤ 12 }
+    ensures { result ≡ table_at section (manifest_of s.now) }
+{
+    Table {
+        from: start_of(s, index, section),
+        to: start_of(s, index, section + 1),
+    }
+}
+
+// The table of a section: the words that say where its entries start.
+#[tactic(auto, using(crate::proofs::Indexed::start_next, crate::proofs::Indexed::start_there))]
+pub fn table_of<'i>(s: &[u8], index: &'i [u32], section: u8) -> &'i [u32]
+    requires laid { Laid s.now index.now }
+    requires section_bound { section ≤ 12 }
+    ensures { result.now ≡ table_of section s.now index.now }
+{
+    let table = table_in(s, index, section);
+    &index[table.from..table.to]
+}
+
+// From which word of the index on the entries of a section stand; those of section 13 would stand behind all others.
+#[tactic(auto, using(crate::proofs::Indexed::laid_of))]
+pub fn table_start(s: &[u8], index: &[u32], section: u8) -> usize
+    requires tabled { Tabled s.now index.now }
+    requires section_bound { section ≤ 13 }
+    ensures { result ≡ table_start section (manifest_of s.now) }
+{
+    start_of(s, index, section)
 }
 
 // Where the table of a section lies.

@@ -173,21 +173,21 @@ pub left_end : {s t : List ℕ} {k : ℕ} → Left s t k → 12 < k → compatib
 left_end {s} {t} {k} l h = sym (left-none s t comparisons (k - 1) 0 0 (omega (arith, l.to))) ∙ l.is
 
 -- the starts of a manifest's sections are where they stand
-start-there : {u starts : List ℕ} → Stands u starts → (i : ℕ) → i ≤ 12 → get_or starts i (length u) ≡ start_at u comparisons i 0
+start_there : {u starts : List ℕ} → Stands u starts → (i : ℕ) → i ≤ 12 → get_or starts i (length u) ≡ start_at u comparisons i 0
 unfolding manifest manifest_starts
-start-there {u} p i h = rw p.starts-are (start_is u comparisons i 0 h p.well p.ends)
+start_there {u} p i h = rw p.starts-are (start_is u comparisons i 0 h p.well p.ends)
 
 -- section k of one, from a up to e
 module _ {u starts : List ℕ} (p : Stands u starts) {k : ℕ} (from : 1 ≤ k) (to : k ≤ 12) {a e : ℕ}
     (ea : a ≡ get_or starts (k - 1) (length u)) (ee : e ≡ get_or starts (k + 1 - 1) (length u)) where
   section-start : a ≡ start_at u comparisons (k - 1) 0
-  section-start = ea ∙ start-there p (k - 1) (omega arith)
+  section-start = ea ∙ start_there p (k - 1) (omega arith)
 
   section-end : e ≡ past (comparison k).format u a
   unfolding comparison
   section-end =
       let x : k + 1 - 1 ≡ suc (k - 1) = omega arith in
-      ee ∙ ap (λ (i : ℕ). get_or starts i (length u)) x ∙ start-there p (suc (k - 1)) (omega arith) ∙ start-next u comparisons (k - 1) 0 (omega arith) ∙ rw section-start
+      ee ∙ ap (λ (i : ℕ). get_or starts i (length u)) x ∙ start_there p (suc (k - 1)) (omega arith) ∙ start-next u comparisons (k - 1) 0 (omega arith) ∙ rw section-start
 
 module _ {s t starts starts' : List ℕ} (p : Stands s starts) (q : Stands t starts') where
   -- section k, from a up to e of s and from b up to f of t

@@ -24,7 +24,7 @@ use Rattle.questions.specs.Portability.{some_bound, tag_holds, target_holds, por
 use Rattle.questions.proofs.Chains.{says-yes, says-no}
 use Rattle.state_index.specs.declared.Table.{Table as Place}
 use Rattle.state_layout.specs.Tables.{manifest_of, table_at, Tabled}
-use Rattle.state_layout.proofs.Indexed.{table-blocks, start-there}
+use Rattle.state_layout.proofs.Indexed.{table-blocks, start_there}
 use Rattle.state_portability.specs.Bound.{some_bound_at}
 
 -- ---- the words that list blocks
@@ -57,7 +57,7 @@ tag_unasked s revision e = rw e
 
 module _ {s index : List ℕ} (t : Tabled s index) {blocks : Place} (is : blocks ≡ table_at 3 (manifest_of s)) where
   pub blocks_within : blocks.to ≤ length index
-  blocks_within = rw is (start-there t 4 (omega arith))
+  blocks_within = rw is (start_there t 4 (omega arith))
 
   pub tag_asked : (revision : ℕ) → eqb revision 2 ≡ true → {b : Bool} → b ≡ some_bound_at target_bound_classes s (span index blocks.from blocks.to) → {tag : ℕ} → tag ≡ get_or s 0 0
       → beq b (eqb tag 1) ≡ tag_holds target_bound_classes revision (manifest_of s)

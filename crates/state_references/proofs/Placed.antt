@@ -11,14 +11,14 @@ use Rattle.questions.specs.Sets.{all, each_once}
 use Rattle.state_index.specs.declared.Table.{Table}
 use Rattle.state_layout.specs.Tables.{table_at, manifest_of, table_start, room_start, Tabled, Leaves}
 use Rattle.state_layout.specs.Marks.{is_set, Keyed}
-use Rattle.state_layout.proofs.Indexed.{rows, room, start-le, start-there, tabled-kept, table-blocks, table-connectors}
+use Rattle.state_layout.proofs.Indexed.{rows, room, start-le, start_there, tabled-kept, table-blocks, table-connectors}
 use Rattle.state_layout.proofs.Names.{table-keyed}
 use Rattle.state_references.specs.Listed.{keys_listed, Lists, MarksListed}
 use Rattle.state_references.proofs.Meeting.{once-not, once-all}
 
 -- a section's table ends within the index
 pub end-there : {s index : List ℕ} → Tabled s index → {k : ℕ} {t : Table} → k ≤ 12 → t ≡ table_at k (manifest_of s) → t.to ≤ length index
-end-there i {k} h e = rw e (start-there i (suc k) (omega arith))
+end-there i {k} h e = rw e (start_there i (suc k) (omega arith))
 
 -- ---- sections with room for marks of their entries
 module _ {s index : List ℕ} (t : Tabled s index) where

@@ -24,7 +24,7 @@ use Rattle.questions.proofs.Ascends.{Ascends, ascends, keep-ascends}
 use Rattle.questions.proofs.Named.{block_name, Alone, each-alone}
 use Rattle.state_index.specs.declared.Table.{Table as Place}
 use Rattle.state_layout.specs.Tables.{manifest_of, table_at, room_start, Tabled, Table}
-use Rattle.state_layout.proofs.Indexed.{table-blocks, table-slots, rows, room, start-there}
+use Rattle.state_layout.proofs.Indexed.{table-blocks, table-slots, rows, room, start_there}
 use Rattle.state_layout.proofs.Names.{keys-are, names-blocks}
 use Rattle.state_slots.specs.Walk.{block_at, slot_at, stateful_of, same_lists, keys_agree, pairwise, pair_answer, key_asked, words_asked, Held, Room}
 use Rattle.state_slots.proofs.Lists.{keep-map, keep-alike}
@@ -49,7 +49,7 @@ module _ {s index : List ℕ} (t : Tabled s index) {b e : Place} (eb : b ≡ tab
   stateful = stateful_of s index b.from b.to
 
   pub within : (b.to ≤ length index) × (e.to ≤ length index)
-  within = (rw eb (start-there t 4 (omega arith)), rw ee (start-there t 10 (omega arith)))
+  within = (rw eb (start_there t 4 (omega arith)), rw ee (start_there t 10 (omega arith)))
 
   of_blocks : Table blocks s blocks_words bs
   of_blocks = rw eb (table-blocks t)

@@ -1,9 +1,12 @@
 use native.Mathlib.Omega.{arith}
-use Rattle.state_layout.proofs.Indexed.{reach_next, reach_end, reach_fits}
-use Rattle.state_layout.proofs.table_start.Goals as goal
+use Rattle.state_layout.proofs.Indexed.{reach_next, reach_end, reach_fits, reach_word}
+use Rattle.state_layout.proofs.start_of.Goals as goal
 
 pub overflow_add-w : goal.overflow_add-w
 overflow_add-w c = omega (arith, reach_fits (reach_next c.loop-k.invariant c.loop-k-test.true (rw c.from.ensures at c.word_at.ensures) c.count_at-w.ensures))
 
 pub returns : goal.returns
 returns c = reach_end c.loop-k.invariant (omega arith)
+
+pub word_at-requires : goal.word_at-requires
+word_at-requires c = rw (← c.from.ensures) at (reach_word c.loop-k.invariant c.loop-k-test.true)
