@@ -3,4 +3,3 @@ pub mod Keys
 pub mod Sort
 pub mod Find
 pub mod Sift
-pub mod Words
