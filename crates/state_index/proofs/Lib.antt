@@ -9,3 +9,4 @@ pub mod Slots
 pub mod Sieve
 pub mod Sections
 pub mod Search
+pub mod Halving

@@ -30,7 +30,7 @@ module _ (le : ℕ → ℕ → Bool) where
   below_get x (y ∷ l) b zero h = b.0
   below_get x (y ∷ l) b (suc j) h = below_get x l b.1 j (omega arith)
 
-  ordered-get : (l : List ℕ) → Ordered le l → (i j : ℕ) → i < j → j < length l → le (get_or l i 0) (get_or l j 0) ≡ true
+  pub ordered-get : (l : List ℕ) → Ordered le l → (i j : ℕ) → i < j → j < length l → le (get_or l i 0) (get_or l j 0) ≡ true
   ordered-get [] o i j h k = absurd (omega arith)
   ordered-get (x ∷ l) o i zero h k = absurd (omega arith)
   ordered-get (x ∷ l) o zero (suc j) h k = below_get x l o.0 j (omega arith)
@@ -42,7 +42,7 @@ span-get l from to i h k =
     get_or-take (to - from) (drop from l) (i - from) 0 (omega arith) ∙ get_or-drop from l (i - from) 0 ∙ rw e
 
 -- ---- a key that no entry has
-not_in : (key : List ℕ) (f : ℕ → List ℕ) (l : List ℕ) → ((i : ℕ) → i < length l → same key (f (get_or l i 0)) ≡ false) → is_in key (map f l) ≡ false
+pub not_in : (key : List ℕ) (f : ℕ → List ℕ) (l : List ℕ) → ((i : ℕ) → i < length l → same key (f (get_or l i 0)) ≡ false) → is_in key (map f l) ≡ false
 unfolding is_in
 not_in key f [] h = refl
 not_in key f (x ∷ l) h = rw (h zero (omega arith)) (not_in key f l (λ i k. h (suc i) (omega arith)))

@@ -2,4 +2,5 @@
 pub mod Keys
 pub mod Sort
 pub mod Find
+pub mod Words
 pub mod Sift

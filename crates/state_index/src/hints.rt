@@ -15,7 +15,7 @@ fn join(n: u64, key: &[u8], at: usize) -> u64 {
 }
 
 // A number of the first 48 and the last sixteen of those bytes, in two lanes, or of as many as there are; 0 for a key of fewer than eight.
-fn hash(key: &[u8]) -> u64 {
+pub(crate) fn hash(key: &[u8]) -> u64 {
     let n = key.len();
     if n < 8 {
         return 0;

@@ -5,6 +5,7 @@ pub mod hints;
 pub mod keys;
 mod positions;
 mod sift;
+pub mod words;
 
 ghost use Rattle.std.specs.Prelude.{◌≡◌, ◌++◌, map, ◌+◌, ◌-◌, ◌≤◌, ◌<◌, min, length, take, drop, get_or, replicate};
 ghost use Rattle.state.specs.Bytes.{span};
