@@ -37,7 +37,7 @@ any-map t f (x ∷ l) = rw (any-map t f l)
 
 module _ (c : List ℕ) (key : ℕ → List ℕ) (r : ℕ → Bool) where
   -- none has that key
-  any_none : (l : List ℕ) → is_in c (map key l) ≡ false → any (λ q. same c (key q) && r q) l ≡ false
+  pub any_none : (l : List ℕ) → is_in c (map key l) ≡ false → any (λ q. same c (key q) && r q) l ≡ false
   unfolding any is_in
   any_none [] h = refl
   any_none (x ∷ l) h = let n = neither (same c (key x)) (is_in c (map key l)) h in rw (n.0, any_none l n.1)
@@ -57,17 +57,17 @@ module _ (c : List ℕ) (key : ℕ → List ℕ) (r : ℕ → Bool) where
 
 -- ---- an enum value and the classes
 -- the ordinal stands behind the class
-ordinal-is : (t : List ℕ) (p : ℕ) → get_or t p 0 ≡ 4 → ordinal (value_at value t p) ≡ number_at 4 t (past text t (min (p + 1) (length t)))
+pub ordinal-is : (t : List ℕ) (p : ℕ) → get_or t p 0 ≡ 4 → ordinal (value_at value t p) ≡ number_at 4 t (past text t (min (p + 1) (length t)))
 unfolding value_at value ordinal
 ordinal-is t p tag = rw tag
 
 -- the class at q has the ordinals from 1 to the number of its members
-range-is : (n : ℕ) (s : List ℕ) (q : ℕ) → in_range n (value_at (entry enums) s q) ≡ (ltb 0 n && leb n (number_at 4 s (past text s q)))
+pub range-is : (n : ℕ) (s : List ℕ) (q : ℕ) → in_range n (value_at (entry enums) s q) ≡ (ltb 0 n && leb n (number_at 4 s (past text s q)))
 unfolding in_range members_of members value_at
 range-is n s q = rw (values_length (value_at text s))
 
 -- a listed class has its path and its ordinal
-holds-any : (es : List (Entry enums)) (v : El value) {c : List ℕ} {n : ℕ} → value_class v ≡ c ∷ [] → ordinal v ≡ n
+pub holds-any : (es : List (Entry enums)) (v : El value) {c : List ℕ} {n : ℕ} → value_class v ≡ c ∷ [] → ordinal v ≡ n
     → enum_holds es v ≡ any (λ e. same c (enum_path e) && in_range n e) es
 unfolding enum_holds all
 holds-any es v {c} {n} h k = rw (h, k) (and-true (any (λ e. same c (enum_path e) && in_range n e) es))

@@ -9,3 +9,6 @@ pub mod Marked
 pub mod Marking
 pub mod Hinting
 pub mod Classed
+pub mod Meeting
+pub mod Classing
+pub mod Every

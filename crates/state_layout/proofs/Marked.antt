@@ -74,6 +74,15 @@ unfolding is_set
 is-set true = refl
 is-set false = refl
 
+pub set-where : (n : ℕ) → (n ≡ 0 → ⊥) → is_set n ≡ true
+unfolding is_set
+set-where zero h = absurd (h refl)
+set-where (suc n) h = refl
+
+pub unset-where : (n : ℕ) → n ≡ 0 → is_set n ≡ false
+unfolding is_set
+unset-where n e = rw e
+
 pub all_set : (seen keys : List (List ℕ)) → all is_set (marks_of seen keys) ≡ all_in keys seen
 unfolding all all_in marks_of
 all_set seen [] = refl

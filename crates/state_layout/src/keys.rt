@@ -1,13 +1,18 @@
 // A section's table whose keys ascend: looking up, and marks of the keys that were met.
-ghost use Rattle.std.specs.Prelude.{◌≡◌, ◌<◌, ◌≤◌, length};
-ghost use Rattle.format.specs.Manifest.{numbered};
-ghost use Rattle.format.specs.Places.{key_at};
+ghost use Rattle.std.specs.Prelude.{◌≡◌, ◌≤◌, length};
+ghost use Rattle.format.specs.Manifest.{numbered, value};
+ghost use Rattle.format.specs.Values.{value_at};
+ghost use Rattle.questions.specs.Sets.{all};
+ghost use Rattle.questions.specs.Declarations.{enum_holds};
+ghost use Rattle.state_index.specs.Words.{Found};
 ghost use Rattle.state_layout.specs.Tables.{Laid, table_of};
-ghost use Rattle.state_layout.specs.Keys.{Ascends, Ascends-prop};
+ghost use Rattle.state_layout.specs.Marks.{is_set};
+ghost use Rattle.state_layout.specs.Keys.{Ascends, Ascends-prop, classes_of, Met, MetNew};
 
 use super::table_in;
-use state::Section;
-use state_index::Table;
+use state::WireValueType;
+use state_index::keys::{byte_at, count_at};
+use state_index::{Table, ahead, text_end, text_part, word_at, words};
 
 // The words that say where a section's entries start, whose keys ascend, and hints of the places of keys: a place plus 1, or 0.
 #[derive(Clone, Copy)]
@@ -51,4 +56,70 @@ pub fn keys_of<'a, const SECTION: u8>(
         words: &tables[table.from..table.to],
         hints: hints_in(room, table),
     }
+}
+
+impl<'a, const SECTION: u8> Keys<'a, SECTION> {
+    // The place of the word whose entry has the key; place `hint` is tried first.
+    pub fn find(self, key: &[u8], hint: usize) -> Option<usize>
+        ensures { Found (numbered SECTION) self.entry.s.now self.entry.words.now key.now result }
+    {
+        words::find(self.s, SECTION, self.words, self.hints, key, hint)
+    }
+
+    // The same without one.
+    pub fn search(self, key: &[u8]) -> Option<usize>
+        ensures { Found (numbered SECTION) self.entry.s.now self.entry.words.now key.now result }
+    {
+        words::search(self.s, SECTION, self.words, self.hints, key)
+    }
+
+    // Finds a key and sets its mark.
+    #[tactic(auto, using(crate::proofs::Meeting::unmet))]
+    pub fn mark(self, marks: &mut [u32], key: &[u8], hint: usize) -> Option<usize>
+        requires { length marks.old ≡ length self.words.now }
+        ensures { Met (numbered SECTION) self.entry.s.now self.entry.words.now key.now result marks.old marks.new }
+    {
+        let i = self.find(key, hint)?;
+        marks[i] = 1;
+        Some(i)
+    }
+
+    // The same, where the mark is not set yet; a key whose mark is set counts as not found.
+    // Not one function with `mark`: what they share is the search, a call already.
+    #[tactic(auto, using(crate::proofs::Meeting::unmet_new))]
+    pub fn mark_new(self, marks: &mut [u32], key: &[u8], hint: usize) -> Option<usize>
+        requires { length marks.old ≡ length self.words.now }
+        ensures { MetNew (numbered SECTION) self.entry.s.now self.entry.words.now key.now result marks.old marks.new }
+    {
+        let i = self.find(key, hint)?;
+        if marks[i] != 0 {
+            return None;
+        }
+        marks[i] = 1;
+        Some(i)
+    }
+}
+
+// Whether all marks are set.
+pub fn all_marked(marks: &[u32]) -> bool
+    ensures { result ≡ all is_set marks.now }
+{
+    marks.iter().all(|m| *m != 0)
+}
+
+// Is the value at a position of a class that is listed, its ordinal in range, if it is an enum value at all?
+#[tactic(auto, using(crate::proofs::Choosing::no_enum, crate::proofs::Classing::class_unlisted, crate::proofs::Classing::class_zero, crate::proofs::Classing::class_range))]
+pub fn validate_value_enum(classes: Classes, t: &[u8], at: usize) -> bool
+    ensures { result ≡ enum_holds (classes_of classes.entry.s.now classes.entry.words.now) (value_at value t.now at) }
+{
+    if byte_at(t, at) != WireValueType::ENUM {
+        return true;
+    }
+    let class = ahead(t, at, 1);
+    let Some(i) = classes.find(text_part(t, class), 0) else {
+        return false;
+    };
+    let ordinal = count_at(t, text_end(t, class));
+    let members = count_at(classes.s, text_end(classes.s, word_at(classes.words, i)));
+    0 < ordinal && ordinal <= members
 }
