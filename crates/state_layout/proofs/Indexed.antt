@@ -3,9 +3,10 @@ use Prim.Native.Nat.{ℕ, zero, suc, ◌+◌, ◌*◌, ◌-◌, ◌^◌, ◌≤�
 use native.Mathlib.Omega.{arith}
 use mathlib.Core.Path.{◌≡◌, refl, sym, ap, ◌∙◌}
 use mathlib.Core.List.{List, [], ◌∷◌, ◌++◌, map}
-use lib.ListN.{length, get_or, take, drop, get_or-append, length-take}
-use lib.Seq.{drop_at, take-take, get_or-take}
+use lib.ListN.{length, get_or, take, drop, get_or-append, length-take, length-drop, length-append}
+use lib.Seq.{take_at, drop_at, take-take, get_or-take}
 use Rattle.state.specs.Bytes.{span}
+use Rattle.state.proofs.Bytes.{span-length}
 use Rattle.format.specs.Format.{El}
 use Rattle.format.specs.Manifest.{Section, counted, lists, sequence, portability, manifest, enums, blocks, connectors, connections, schedule, connector_order, driver_of, state_slots, external_inputs, boundary_outputs, input_definitions}
 use Rattle.format.specs.Fields.{enums_of, blocks_of, connectors_of, connections_of, schedule_of, connector_order_of, drivers_of, slots_of, external_inputs_of, boundary_outputs_of, input_definitions_of}
@@ -18,7 +19,7 @@ use Rattle.format.proofs.Values.{values_length, well-then}
 use Rattle.state_index.proofs.Lists.{slice-run}
 use Rattle.state_index.specs.Sort.{Kept}
 use Rattle.questions.specs.Sets.{sum}
-use Rattle.state_layout.specs.Tables.{manifest_of, counts, table_start, table_of, room_start, Laid, Tabled, Table, Leaves}
+use Rattle.state_layout.specs.Tables.{manifest_of, counts, table_start, table_of, room_start, room_end, Laid, Tabled, Table, Leaves}
 use Rattle.state_layout.proofs.Tables.{limit, Tables, lists-tables, pick, picked, span-after, table-picked}
 
 -- ---- words of the index
@@ -145,11 +146,6 @@ all-rows : (m : El manifest) → table_start 13 m ≡ 12 + length (enums_of m) +
 unfolding manifest table_start sum counts enums_of blocks_of connectors_of connections_of schedule_of connector_order_of drivers_of slots_of external_inputs_of boundary_outputs_of input_definitions_of
 all-rows m = omega arith
 
-abbrev pub room_end : List ℕ → ℕ
-room_end s =
-    room_start s + length (enums_of (manifest_of s)) + length (blocks_of (manifest_of s)) + 3 * length (connectors_of (manifest_of s))
-    + 2 * length (slots_of (manifest_of s)) + 2 * length (external_inputs_of (manifest_of s)) + 2 * length (boundary_outputs_of (manifest_of s))
-
 half : (n l a : ℕ) → index_words n ≤ l → 2 * a ≤ n + 31 → a ≤ l
 half n l a h k = omega arith
 
@@ -187,6 +183,16 @@ leaves_front t e l = record {
   tabled = record { bytes = t.bytes; short = t.short; well = t.well; whole = t.whole; words = e ∙ t.words; long = rw l t.long };
   long = l;
 }
+
+pub leaves_split : {s old : List ℕ} (r : List ℕ) → Tabled s old → length r ≡ length (drop (room_start s) old) → Leaves s old (take (room_start s) old ++ r)
+leaves_split {s} {old} r t l =
+    leaves_front t
+    (take_at (take (room_start s) old) r (room_start s) (omega (arith, length-take (room_start s) old, room t)))
+    (omega (arith, length-append (take (room_start s) old) r, length-take (room_start s) old, length-drop (room_start s) old, room t, l))
+
+-- the room behind them is long enough
+pub room_behind : {s index : List ℕ} → Tabled s index → room_end s ≤ room_start s + length (drop (room_start s) index)
+room_behind {s} {index} t = omega (arith, length-drop (room_start s) index, room t)
 
 -- ---- the tables stay
 pub leaves_all : {s index : List ℕ} → Tabled s index → Leaves s index index
@@ -237,6 +243,11 @@ start_next m k h = omega (arith, sum-le (counts lists m.1) (k - 2) (suc k - 2) (
 -- every table stands within the index
 pub start_there : {s index : List ℕ} → Laid s index → (k : ℕ) → k ≤ 13 → table_start k (manifest_of s) ≤ length index
 start_there {s} t k h = omega (arith, t.there, start-le (manifest_of s) k h)
+
+-- how long one is
+pub table_long : {s index : List ℕ} → Laid s index → (k : ℕ) → k ≤ 12 → length (table_of k s index) ≡ table_start (suc k) (manifest_of s) - table_start k (manifest_of s)
+table_long {s} {index} t k h =
+    span-length index (table_start k (manifest_of s)) (table_start (suc k) (manifest_of s)) (start_next (manifest_of s) k h) (start_there t (suc k) (omega arith))
 
 -- ---- the loop that adds up the counts of the sections before one
 pub record Reaching (s index : List ℕ) (section w k : ℕ) : Type 0 where

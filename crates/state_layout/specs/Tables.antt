@@ -1,11 +1,11 @@
 -- The tables of the lent index while questions are asked: the starts of the sections, then those of their entries, section by section.
-use Rattle.std.specs.Prelude.{ℕ, suc, ◌+◌, ◌-◌, ◌≤◌, ◌≡◌, List, [], ◌∷◌, ◌++◌, map, length, take, true}
+use Rattle.std.specs.Prelude.{ℕ, suc, ◌+◌, ◌*◌, ◌-◌, ◌≤◌, ◌≡◌, List, [], ◌∷◌, ◌++◌, map, length, take, true}
 use Rattle.state.specs.Bytes.{AreBytes, span}
 use Rattle.state_wire.specs.Fields.{max_snapshot_bytes}
 use Rattle.format.specs.Format.{El, encode}
 use Rattle.format.specs.Admits.{All, shown, in_order}
 use Rattle.format.specs.Manifest.{Section, entry, counted, lists, sequence, manifest}
-use Rattle.format.specs.Fields.{Entry}
+use Rattle.format.specs.Fields.{Entry, enums_of, blocks_of, connectors_of, slots_of, external_inputs_of, boundary_outputs_of}
 use Rattle.format.specs.Places.{manifest_starts, manifest_entries, past}
 use Rattle.format.specs.Reading.{index_words}
 use Rattle.format.specs.Values.{value_at, Well}
@@ -37,6 +37,13 @@ table_of k s index = span index (table_start k (manifest_of s)) (table_start (su
 -- where all tables end
 abbrev pub room_start : List ℕ → ℕ
 room_start s = table_start 13 (manifest_of s)
+
+-- where the room ends that questions need behind them: for marks of classes, blocks and connectors, and to sort connectors, slots, external
+-- inputs or boundary outputs
+abbrev pub room_end : List ℕ → ℕ
+room_end s =
+    room_start s + length (enums_of (manifest_of s)) + length (blocks_of (manifest_of s)) + 3 * length (connectors_of (manifest_of s))
+    + 2 * length (slots_of (manifest_of s)) + 2 * length (external_inputs_of (manifest_of s)) + 2 * length (boundary_outputs_of (manifest_of s))
 
 -- words that begin with the tables of a manifest that was read
 pub record Laid (s index : List ℕ) : Type 0 where

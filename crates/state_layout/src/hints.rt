@@ -1,49 +1,53 @@
-// Fills the hints of a table, with which `find` begins: words at the end of the index, behind all tables.
+// Fills the hints of a table, with which `find` begins: words at the end of the room, behind all tables.
 ghost use Rattle.std.specs.Prelude.{◌+◌, ◌*◌, ◌-◌, ◌^◌, ◌≤◌, ◌<◌, length};
-ghost use Rattle.state_index.specs.Sort.{Kept};
-ghost use Rattle.state_layout.specs.Tables.{Tabled, Leaves};
+ghost use Rattle.state_layout.specs.Tables.{Laid, Tabled, Leaves};
 
-use super::{table_at, table_start};
-use state_index::hints::{has_hints, hints_of};
-use state_index::{Table, clear, key_part, word_at};
+use super::{room_start, table_in};
+use state_index::words::hints_of;
+use state_index::key_part;
 
-// Puts a word into the first of four that is 0, if one is.
-fn put_hint(index: &mut [u32], at: usize, w: u32)
-    requires { at + 4 ≤ length index.old }
-    ensures { Kept at (at + 4) index.old index.new }
-{
-    let free = index[at..at + 4].iter().position(|h| *h == 0);
+// Puts a place plus 1 into the first hint that is 0, if one is.
+fn put_hint(hints: &mut [u32], hint: u32) {
+    let free = hints.iter().position(|h| *h == 0);
     if let Some(k) = free {
-        index[at + k] = w;
+        hints[k] = hint;
     }
 }
 
-// Puts each word of a table where a key of its entry is looked for.
-fn put_all(s: &[u8], section: u8, index: &mut [u32], table: Table)
-    requires { (table.from + 8 ≤ table.to) × (4 * table.to ≤ length index.old) × (table.to < 2 ^ 32) }
-    ensures { Kept (length index.old - 4 * table.to) (length index.old) index.old index.new }
+// Puts each place of a table where the key of its entry is looked for.
+fn put_all(s: &[u8], section: u8, words: &[u32], hints: &mut [u32])
+    requires { (4 ≤ length hints.old) × (length words.now < 2 ^ 32 - 1) }
 {
-    let first = index.len() - 4 * table.to;
-    let last = index.len() - 4 * table.from;
-    clear(index, first, last);
-    for w in table.from..table.to {
-        let key = key_part(s, section, word_at(index, w));
-        let at = hints_of(index, table.from, table.to, key);
-        put_hint(index, at, w as u32);
+    hints.fill(0);
+    for (i, word) in words.iter().enumerate() {
+        let first = hints_of(hints, key_part(s, section, *word as usize));
+        put_hint(&mut hints[first..first + 4], i as u32 + 1);
     }
 }
 
-// Fills the hints of a section's table, if the index is long enough.
-#[tactic(auto, using(crate::proofs::Hinting::start_fits, crate::proofs::Hinting::kept_leaves))]
+// Fills the hints of a section's table of eight words or more, four for each, if the room has so many.
+#[tactic(auto, using(crate::proofs::Hinting::table_fits))]
+pub fn fill_hints(s: &[u8], tables: &[u32], room: &mut [u32], section: u8)
+    requires laid { Laid s.now tables.now }
+    requires section_bound { section ≤ 12 }
+{
+    let table = table_in(s, tables, section);
+    if table.to - table.from < 8 || room.len() / 4 < table.to {
+        return;
+    }
+    let first = room.len() - 4 * table.to;
+    let last = room.len() - 4 * table.from;
+    put_all(s, section, &tables[table.from..table.to], &mut room[first..last]);
+}
+
+// The same, of an index.
+#[tactic(auto, using(crate::proofs::Indexed::laid_of, crate::proofs::Indexed::laid_front, crate::proofs::Indexed::leaves_split))]
 pub fn put_hints(s: &[u8], index: &mut [u32], section: u8)
     requires tabled { Tabled s.now index.old }
     requires section_bound { section ≤ 12 }
     ensures { Leaves s.now index.old index.new }
 {
-    let table = table_at(s, index, section);
-    if has_hints(index, table.from, table.to)
-        && table_start(s, index, 13) <= index.len() - 4 * table.to
-    {
-        put_all(s, section, index, table);
-    }
+    let end = room_start(s, index);
+    let (tables, room) = index.split_at_mut(end);
+    fill_hints(s, tables, room, section);
 }
