@@ -1,5 +1,5 @@
--- The class of an enum value among those that words of an index list: of paths that are all different only one can be its.
-use Prim.Native.Nat.{ℕ, zero, suc, ◌+◌, ◌-◌, ◌≤◌, ◌<◌, min}
+-- The class of an enum value among those that words list: of paths that are all different only one can be its.
+use Prim.Native.Nat.{ℕ, zero, suc, ◌+◌, ◌≤◌, ◌<◌, min}
 use native.Mathlib.Omega.{arith}
 use mathlib.Core.Path.{◌≡◌, refl, sym, ◌∙◌}
 use mathlib.Core.Bool.{Bool, true, false, ◌&&◌, and-true, or-false}
@@ -8,8 +8,6 @@ use lib.ListN.{length, get_or, length-map}
 use lib.Dec.{ltb, leb}
 use borrow.Author.Tests.{le-ltb, lt-ltb}
 use Rattle.std.specs.Prelude.{Option, Some, None}
-use Rattle.state.specs.Bytes.{span}
-use Rattle.state.proofs.Bytes.{span-length}
 use Rattle.text.proofs.Blocks.{neither}
 use Rattle.format.specs.Lists.{same, is_in, all_different}
 use Rattle.format.specs.Format.{El, text}
@@ -21,10 +19,8 @@ use Rattle.format.proofs.Lists.{same_refl, same-sym}
 use Rattle.format.proofs.Values.{values_length}
 use Rattle.questions.specs.Sets.{all, any}
 use Rattle.questions.specs.Declarations.{in_range, enum_holds}
-use Rattle.state_index.specs.Find.{Finds}
-use Rattle.state_index.proofs.Search.{span-get}
-use Rattle.state_layout.specs.Marks.{Keyed}
-use Rattle.state_layout.specs.Classes.{classes_at}
+use Rattle.state_index.specs.Words.{Found}
+use Rattle.state_layout.specs.Keys.{Ascends, classes_of}
 use Rattle.state_layout.proofs.Choosing.{value-class}
 use Rattle.state_layout.proofs.Marked.{first-apart, key_apart, get-map}
 
@@ -37,7 +33,7 @@ any-map t f (x ∷ l) = rw (any-map t f l)
 
 module _ (c : List ℕ) (key : ℕ → List ℕ) (r : ℕ → Bool) where
   -- none has that key
-  pub any_none : (l : List ℕ) → is_in c (map key l) ≡ false → any (λ q. same c (key q) && r q) l ≡ false
+  any_none : (l : List ℕ) → is_in c (map key l) ≡ false → any (λ q. same c (key q) && r q) l ≡ false
   unfolding any is_in
   any_none [] h = refl
   any_none (x ∷ l) h = let n = neither (same c (key x)) (is_in c (map key l)) h in rw (n.0, any_none l n.1)
@@ -57,63 +53,60 @@ module _ (c : List ℕ) (key : ℕ → List ℕ) (r : ℕ → Bool) where
 
 -- ---- an enum value and the classes
 -- the ordinal stands behind the class
-pub ordinal-is : (t : List ℕ) (p : ℕ) → get_or t p 0 ≡ 4 → ordinal (value_at value t p) ≡ number_at 4 t (past text t (min (p + 1) (length t)))
+ordinal-is : (t : List ℕ) (p : ℕ) → get_or t p 0 ≡ 4 → ordinal (value_at value t p) ≡ number_at 4 t (past text t (min (p + 1) (length t)))
 unfolding value_at value ordinal
 ordinal-is t p tag = rw tag
 
 -- the class at q has the ordinals from 1 to the number of its members
-pub range-is : (n : ℕ) (s : List ℕ) (q : ℕ) → in_range n (value_at (entry enums) s q) ≡ (ltb 0 n && leb n (number_at 4 s (past text s q)))
+range-is : (n : ℕ) (s : List ℕ) (q : ℕ) → in_range n (value_at (entry enums) s q) ≡ (ltb 0 n && leb n (number_at 4 s (past text s q)))
 unfolding in_range members_of members value_at
 range-is n s q = rw (values_length (value_at text s))
 
 -- a listed class has its path and its ordinal
-pub holds-any : (es : List (Entry enums)) (v : El value) {c : List ℕ} {n : ℕ} → value_class v ≡ c ∷ [] → ordinal v ≡ n
+holds-any : (es : List (Entry enums)) (v : El value) {c : List ℕ} {n : ℕ} → value_class v ≡ c ∷ [] → ordinal v ≡ n
     → enum_holds es v ≡ any (λ e. same c (enum_path e) && in_range n e) es
 unfolding enum_holds all
 holds-any es v {c} {n} h k = rw (h, k) (and-true (any (λ e. same c (enum_path e) && in_range n e) es))
 
 -- the enum value at p of t, and what a search among the classes in s for its class's path found
-module _ {s index : List ℕ} {from to : ℕ} (t : List ℕ) (p : ℕ) (k : Keyed enums s index from to to) {tag : ℕ} (et : tag ≡ get_or t p 0) (ez : tag ≡ 4)
+module _ {s words : List ℕ} (t : List ℕ) (p : ℕ) (a : Ascends (numbered 2) s words) {tag : ℕ} (et : tag ≡ get_or t p 0) (ez : tag ≡ 4)
     {start : ℕ} {class : List ℕ} {f : Option ℕ} (begins : start ≡ min (p + 1) (length t)) (reads : class ≡ value_at text t start)
-    (r : Finds (numbered 2) s index from to class f) where
+    (r : Found (numbered 2) s words class f) where
   abbrev holds : Bool
-  holds = enum_holds (classes_at s index from to) (value_at value t p)
+  holds = enum_holds (classes_of s words) (value_at value t p)
 
   abbrev range_at : ℕ → Bool
   range_at q = in_range (ordinal (value_at value t p)) (value_at (entry enums) s q)
 
-  holds-is : holds ≡ any (λ q. same class (key_at enums s q) && range_at q) (span index from to)
+  holds-is : holds ≡ any (λ q. same class (key_at enums s q) && range_at q) words
   unfolding enum_path key_at value_at
   holds-is =
-      holds-any (classes_at s index from to) (value_at value t p) (value-class t p ∙ rw (← et, ez, reads, begins)) refl
-      ∙ any-map (λ e. same class (enum_path e) && in_range (ordinal (value_at value t p)) e) (value_at (entry enums) s) (span index from to)
+      holds-any (classes_of s words) (value_at value t p) (value-class t p ∙ rw (← et, ez, reads, begins)) refl
+      ∙ any-map (λ e. same class (enum_path e) && in_range (ordinal (value_at value t p)) e) (value_at (entry enums) s) words
 
   -- its class is not listed
   pub class_unlisted : f ≡ None → false ≡ holds
   unfolding numbered
-  class_unlisted n = sym (holds-is ∙ any_none class (key_at enums s) range_at (span index from to) (r.nothing n))
+  class_unlisted n = sym (holds-is ∙ any_none class (key_at enums s) range_at words (r.nothing n))
 
-  -- the word of its class, and its ordinal n
-  module _ {w : ℕ} (i : f ≡ Some w) {end n : ℕ} (ends : end ≡ past text t start) (is : n ≡ number_at 4 t end) where
-    found : (from ≤ w) × (w < to) × (key_at enums s (get_or index w 0) ≡ class)
+  -- the place of its class, and its ordinal n
+  module _ {i : ℕ} (g : f ≡ Some i) {end n : ℕ} (ends : end ≡ past text t start) (is : n ≡ number_at 4 t end) where
+    found : (i < length words) × (key_at enums s (get_or words i 0) ≡ class)
     unfolding numbered
-    found = r.at w i
+    found = r.at i g
 
-    holds-here : holds ≡ (ltb 0 n && leb n (number_at 4 s (past text s (get_or index w 0))))
+    holds-here : holds ≡ (ltb 0 n && leb n (number_at 4 s (past text s (get_or words i 0))))
+    unfolding numbered
     holds-here =
-        let least : from ≤ w = found.0 in
-        let most : w < to = found.1 in
-        let long : length (span index from to) ≡ to - from = span-length index from to k.forward (omega (arith, k.fits)) in
-        let word : get_or (span index from to) (w - from) 0 ≡ get_or index w 0 = span-get index from to w least most in
         let ordinal-here : ordinal (value_at value t p) ≡ n = ordinal-is t p (sym et ∙ ez) ∙ rw (is, ends, begins) in
         holds-is
-        ∙ any-only class (key_at enums s) range_at (span index from to) (w - from) k.different (omega arith) (rw word found.2)
-        ∙ rw (word, ordinal-here) (range-is n s (get_or index w 0))
+        ∙ any-only class (key_at enums s) range_at words i a.1 found.0 found.1
+        ∙ rw ordinal-here (range-is n s (get_or words i 0))
 
     -- ordinals start at 1
     pub class_zero : n ≤ 0 → ltb 0 n ≡ holds
     class_zero z = sym (holds-here ∙ rw (le-ltb 0 n z))
 
     -- and end with the last member
-    pub class_range : 0 < n → {q names count : ℕ} → q ≡ get_or index w 0 → names ≡ past text s q → count ≡ number_at 4 s names → leb n count ≡ holds
+    pub class_range : 0 < n → {q names count : ℕ} → q ≡ get_or words i 0 → names ≡ past text s q → count ≡ number_at 4 s names → leb n count ≡ holds
     class_range z word after counts = sym (holds-here ∙ rw (lt-ltb 0 n z, counts, after, word))

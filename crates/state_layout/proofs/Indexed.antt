@@ -201,20 +201,6 @@ leaves_all t = record { tabled = t; long = refl }
 pub leaves-then : {s a b c : List ℕ} → Leaves s a b → Leaves s b c → Leaves s a c
 leaves-then h k = record { tabled = k.tabled; long = k.long ∙ h.long }
 
--- where only words behind them change
-pub tabled-kept : {s old new : List ℕ} (a b : ℕ) → Tabled s old → Kept a b old new → room_start s ≤ a → Leaves s old new
-tabled-kept {s} {old} {new} a b t k h = record {
-  tabled = record {
-    bytes = t.bytes;
-    short = t.short;
-    well = t.well;
-    whole = t.whole;
-    words = sym (take-take (room_start s) a new h) ∙ ap (take (room_start s)) k.front ∙ take-take (room_start s) a old h ∙ t.words;
-    long = rw k.long t.long;
-  };
-  long = k.long;
-}
-
 -- ---- how far the tables reach
 sum-next : (ns : List ℕ) (i : ℕ) → sum (take (suc i) ns) ≡ sum (take i ns) + get_or ns i 0
 unfolding sum

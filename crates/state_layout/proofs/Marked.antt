@@ -1,25 +1,16 @@
--- Marks of keys that are all different: one set, one read, all of them; and how they stand in an index.
-use Prim.Native.Nat.{ℕ, zero, suc, ◌+◌, ◌-◌, ◌≤◌, ◌<◌}
+-- Marks of keys that are all different: one set, one read, all of them.
+use Prim.Native.Nat.{ℕ, zero, suc, ◌<◌}
 use native.Mathlib.Omega.{arith}
-use native.Mathlib.Nat.{add-sub_cancel_left}
-use mathlib.Core.Path.{◌≡◌, refl, ap, ◌∙◌, subst}
+use mathlib.Core.Path.{◌≡◌, refl, ap, subst}
 use mathlib.Core.Bool.{Bool, true, false, not, cond, or-true}
 use mathlib.Core.List.{List, [], ◌∷◌, map}
-use lib.ListN.{length, get_or, set, replicate, length-map}
+use lib.ListN.{length, get_or, set, replicate}
 use borrow.Author.Tests.{not-true}
-use Rattle.state.specs.Bytes.{span}
-use Rattle.state.proofs.Bytes.{span-length}
 use Rattle.text.proofs.Blocks.{both, neither}
 use Rattle.format.specs.Lists.{same, is_in, all_different}
-use Rattle.format.specs.Manifest.{Section}
-use Rattle.format.specs.Places.{key_at}
 use Rattle.format.proofs.Lists.{same_refl, same-sym}
 use Rattle.questions.specs.Sets.{all, all_in}
-use Rattle.state_index.specs.Sort.{Kept}
-use Rattle.state_index.proofs.Lists.{filled}
-use Rattle.state_index.proofs.Search.{span-get}
-use Rattle.state_layout.specs.Marks.{is_set, keys_at, Keyed, marks_of, Marked}
-use Rattle.state_layout.proofs.Kept.{span-kept, filled-kept, filled-span}
+use Rattle.state_layout.specs.Marks.{is_set, marks_of}
 
 -- ---- keys in a list
 pub get-map : {A B : Type 0} (f : A → B) (l : List A) (i : ℕ) (a : A) (b : B) → i < length l → get_or (map f l) i b ≡ f (get_or l i a)
@@ -92,50 +83,3 @@ pub marks-none : (keys : List (List ℕ)) → marks_of [] keys ≡ replicate (le
 unfolding marks_of is_in
 marks-none [] = refl
 marks-none (x ∷ keys) = ap (λ (l : List ℕ). 0 ∷ l) (marks-none keys)
-
--- ---- keys and marks in an index
-module _ {e : Section} {s index : List ℕ} {from to m : ℕ} (k : Keyed e s index from to m) where
-  span-long : length (span index from to) ≡ to - from
-  span-long = span-length index from to k.forward (omega (arith, k.below, k.fits))
-
-  pub keys-long : length (keys_at e s index from to) ≡ to - from
-  keys-long = length-map (span index from to) (key_at e s) ∙ span-long
-
-  -- the key of a word's entry
-  pub key_of : (w : ℕ) → from ≤ w → w < to → get_or (keys_at e s index from to) (w - from) [] ≡ key_at e s (get_or index w 0)
-  key_of w h l = get-map (key_at e s) (span index from to) (w - from) 0 [] (omega (arith, span-long)) ∙ ap (key_at e s) (span-get index from to w h l)
-
-  pub key-found : {w : ℕ} {key : List ℕ} → from ≤ w → w < to → key_at e s (get_or index w 0) ≡ key → is_in key (keys_at e s index from to) ≡ true
-  key-found {w} h l i = rw (key_of w h l ∙ i) at (key_in (keys_at e s index from to) (w - from) (omega (arith, keys-long)))
-
-module _ {e : Section} {s old new : List ℕ} {from to m : ℕ} {a b : ℕ} (h : Kept a b old new) where
-  -- where its words lie in front of what may have changed
-  pub keyed-kept : Keyed e s old from to m → to ≤ a → Keyed e s new from to m
-  keyed-kept k p = record {
-    ordered = rw (span-kept h from to p) k.ordered;
-    different = rw (span-kept h from to p) k.different;
-    forward = k.forward;
-    below = k.below;
-    fits = rw h.long k.fits;
-  }
-
--- the marks cleared: no key was met
-module _ {e : Section} {s old new : List ℕ} {from to m : ℕ} (k : Keyed e s old from to m) (i : new ≡ filled 0 m (m + (to - from)) old) where
-  pub cleared-kept : Kept m (m + (to - from)) old new
-  cleared-kept = rw i (filled-kept 0 m (m + (to - from)) old (omega arith) k.fits)
-
-  pub marked_start : Marked e s new from to m []
-  marked_start =
-      let keyed : Keyed e s new from to m = keyed-kept cleared-kept k k.below in
-      record {
-        keyed = keyed;
-        set =
-            rw (marks-none (keys_at e s new from to), keys-long keyed)
-            (ap (λ (l : List ℕ). span l m (m + (to - from))) i
-            ∙ filled-span 0 m (m + (to - from)) old (omega arith) k.fits ∙ rw (add-sub_cancel_left m (to - from)));
-      }
-
--- all marks are set where all keys were met
-pub marked_all : {e : Section} {s index : List ℕ} {from to m : ℕ} {seen : List (List ℕ)} → Marked e s index from to m seen
-    → all is_set (span index m (m + (to - from))) ≡ all_in (keys_at e s index from to) seen
-marked_all {e} {s} {index} {from} {to} {m} {seen} k = ap (all is_set) k.set ∙ all_set seen (keys_at e s index from to)

@@ -23,7 +23,6 @@ use Rattle.state_index.proofs.Order.{leq-total}
 use Rattle.state_layout.specs.Tables.{Table, Laid, table_of}
 use Rattle.state_layout.specs.Keys.{Ascends}
 use Rattle.state_layout.proofs.Indexed.{table-enums, table-blocks, table-connectors}
-use Rattle.state_layout.specs.Marks.{Keyed}
 use Rattle.state_layout.proofs.Tables.{limit}
 
 module _ (e : Section) (s : List ℕ) (bytes : AreBytes s) where
@@ -46,20 +45,6 @@ module _ (e : Section) (s : List ℕ) where
   ascending-ordered : (ps : List ℕ) → Ascending (map (key_at e s) ps) → Ordered (key_at_most e s) ps
   ascending-ordered [] a = tt
   ascending-ordered (p ∷ ps) a = (below_all p ps (λ j l. a 0 (suc j) (omega arith) (omega arith)), ascending-ordered ps (λ i j l k. a (suc i) (suc j) (omega arith) (omega arith)))
-
-module _ {e : Section} {s : List ℕ} (index : List ℕ) {vs : List (Entry e)} (bytes : AreBytes s) (rises : Rises e.rule) (from to : ℕ) (t : Table e s (span index from to) vs) where
-  pub table-ascends : Ascending (map (key_at e s) (span index from to))
-  table-ascends = rw (keys-are e s bytes t) ((ascending-iff e.rule rises _).0 t.order)
-
-  -- the words of a section whose keys ascend, with room for marks
-  pub table-keyed : (marks : ℕ) → from ≤ to → to ≤ marks → marks + (to - from) ≤ length index → Keyed e s index from to marks
-  table-keyed marks f b l = record {
-    ordered = ascending-ordered e s (span index from to) table-ascends;
-    different = let ks = map (key_at e s) (span index from to) in (different-iff ks).1 (ascending-different ks table-ascends);
-    forward = f;
-    below = b;
-    fits = l;
-  }
 
 -- ---- the three sections whose keys ascend
 keys-ascend : (e : Section) {s ps : List ℕ} {vs : List (Entry e)} → AreBytes s → Rises e.rule → Table e s ps vs → Ascends e s ps

@@ -1,5 +1,4 @@
 -- What the contracts of `state_layout` cite, and of what is built on it.
 pub mod Tables
 pub mod Marks
-pub mod Classes
 pub mod Keys

@@ -26,10 +26,6 @@ unfoldable pub table_start : (k : ℕ) → El manifest → ℕ
 unfolding manifest
 table_start k m = 12 + sum (take (k - 2) (counts lists m.1))
 
--- where it lies
-abbrev pub table_at : (k : ℕ) → El manifest → index.Table
-table_at k m = record { from = table_start k m; to = table_start (suc k) m }
-
 -- the words that it lists
 abbrev pub table_of : (k : ℕ) → (s index : List ℕ) → List ℕ
 table_of k s index = span index (table_start k (manifest_of s)) (table_start (suc k) (manifest_of s))

@@ -1,8 +1,8 @@
 // Fills the hints of a table, with which `find` begins: words at the end of the room, behind all tables.
-ghost use Rattle.std.specs.Prelude.{◌+◌, ◌*◌, ◌-◌, ◌^◌, ◌≤◌, ◌<◌, length};
-ghost use Rattle.state_layout.specs.Tables.{Laid, Tabled, Leaves};
+ghost use Rattle.std.specs.Prelude.{◌-◌, ◌^◌, ◌≤◌, ◌<◌, length};
+ghost use Rattle.state_layout.specs.Tables.{Laid};
 
-use super::{room_start, table_in};
+use super::range_of;
 use state_index::key_part;
 use state_index::words::hints_of;
 
@@ -31,28 +31,11 @@ pub fn fill_hints(s: &[u8], tables: &[u32], room: &mut [u32], section: u8)
     requires laid { Laid s.now tables.now }
     requires section_bound { section ≤ 12 }
 {
-    let table = table_in(s, tables, section);
-    if table.to - table.from < 8 || room.len() / 4 < table.to {
+    let table = range_of(s, tables, section);
+    if table.end - table.start < 8 || room.len() / 4 < table.end {
         return;
     }
-    let first = room.len() - 4 * table.to;
-    let last = room.len() - 4 * table.from;
-    put_all(
-        s,
-        section,
-        &tables[table.from..table.to],
-        &mut room[first..last],
-    );
-}
-
-// The same, of an index.
-#[tactic(auto, using(crate::proofs::Indexed::laid_of, crate::proofs::Indexed::laid_front, crate::proofs::Indexed::leaves_split))]
-pub fn put_hints(s: &[u8], index: &mut [u32], section: u8)
-    requires tabled { Tabled s.now index.old }
-    requires section_bound { section ≤ 12 }
-    ensures { Leaves s.now index.old index.new }
-{
-    let end = room_start(s, index);
-    let (tables, room) = index.split_at_mut(end);
-    fill_hints(s, tables, room, section);
+    let first = room.len() - 4 * table.end;
+    let last = room.len() - 4 * table.start;
+    put_all(s, section, &tables[table], &mut room[first..last]);
 }

@@ -9,10 +9,11 @@ ghost use Rattle.state_layout.specs.Tables.{Laid, table_of};
 ghost use Rattle.state_layout.specs.Marks.{is_set};
 ghost use Rattle.state_layout.specs.Keys.{Ascends, Ascends-prop, classes_of, Met, MetNew};
 
-use super::table_in;
+use super::range_of;
 use state::{Section, WireValueType};
 use state_index::keys::{byte_at, count_at};
-use state_index::{Table, ahead, text_end, text_part, word_at, words};
+use state_index::{ahead, text_end, text_part, word_at, words};
+use std::ops::Range;
 
 // The words that say where a section's entries start, whose keys ascend, and hints of the places of keys: a place plus 1, or 0.
 #[derive(Clone, Copy)]
@@ -31,9 +32,9 @@ pub type Blocks<'a> = Keys<'a, { Section::BLOCKS }>;
 pub type Connectors<'a> = Keys<'a, { Section::CONNECTORS }>;
 
 // The hints of a table are four for each of its words, at the end of the room, as far from it as the words are from the start.
-fn hints_in(room: &[u32], table: Table) -> &[u32] {
-    if table.to <= room.len() / 4 && table.from <= table.to {
-        &room[room.len() - 4 * table.to..room.len() - 4 * table.from]
+fn hints_in<'r>(room: &'r [u32], table: &Range<usize>) -> &'r [u32] {
+    if table.end <= room.len() / 4 && table.start <= table.end {
+        &room[room.len() - 4 * table.end..room.len() - 4 * table.start]
     } else {
         &[]
     }
@@ -50,11 +51,12 @@ pub fn keys_of<'a, const SECTION: u8>(
     requires section { (2 ≤ SECTION) × (SECTION ≤ 4) }
     ensures { (result.s.now ≡ s.now) × (result.words.now ≡ table_of SECTION s.now tables.now) }
 {
-    let table = table_in(s, tables, SECTION);
+    let table = range_of(s, tables, SECTION);
+    let hints = hints_in(room, &table);
     Keys {
         s,
-        words: &tables[table.from..table.to],
-        hints: hints_in(room, table),
+        words: &tables[table],
+        hints,
     }
 }
 
@@ -109,7 +111,7 @@ pub fn all_marked(marks: &[u32]) -> bool
 }
 
 // Is the value at a position of a class that is listed, its ordinal in range, if it is an enum value at all?
-#[tactic(auto, using(crate::proofs::Choosing::no_enum, crate::proofs::Classing::class_unlisted, crate::proofs::Classing::class_zero, crate::proofs::Classing::class_range))]
+#[tactic(auto, using(crate::proofs::Choosing::no_enum, crate::proofs::Classed::class_unlisted, crate::proofs::Classed::class_zero, crate::proofs::Classed::class_range))]
 pub fn validate_value_enum(classes: Classes, t: &[u8], at: usize) -> bool
     ensures { result ≡ enum_holds (classes_of classes.entry.s.now classes.entry.words.now) (value_at value t.now at) }
 {

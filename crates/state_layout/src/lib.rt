@@ -4,21 +4,18 @@
 pub mod ends;
 pub mod hints;
 pub mod keys;
-pub mod marks;
 
-ghost use Rattle.std.specs.Prelude.{◌≡◌, ◌≤◌};
-ghost use Rattle.format.specs.Manifest.{value_type, value, enums};
+ghost use Rattle.std.specs.Prelude.{◌≡◌, ◌≤◌, suc};
+ghost use Rattle.format.specs.Manifest.{value_type};
 ghost use Rattle.format.specs.Values.{value_at};
-ghost use Rattle.questions.specs.Declarations.{enum_holds};
 ghost use Rattle.questions.specs.Inputs.{same_type};
-ghost use Rattle.state_layout.specs.Tables.{Laid, Tabled, table_start, table_at, table_of, room_start, manifest_of};
-ghost use Rattle.state_layout.specs.Marks.{Keyed};
-ghost use Rattle.state_layout.specs.Classes.{classes_at};
+ghost use Rattle.state_layout.specs.Tables.{Laid, table_start, table_of, room_start, manifest_of};
 
 use state::{Section, WireValueType};
 use state_index::keys::{byte_at, count_at};
-use state_index::{Table, ahead, text_end, text_part, word_at};
+use state_index::{ahead, text_part, word_at};
 use state_key_order::same_bytes;
+use std::ops::Range;
 
 // Are the value types at a position of s and at one of t the same?
 #[tactic(auto, using(crate::proofs::Choosing::types_apart, crate::proofs::Choosing::types_plain, crate::proofs::Choosing::types_enum))]
@@ -29,24 +26,6 @@ pub fn same_type(s: &[u8], a: usize, t: &[u8], b: usize) -> bool
     tag == byte_at(t, b)
         && (tag != WireValueType::ENUM
             || same_bytes(text_part(s, ahead(s, a, 1)), text_part(t, ahead(t, b, 1))))
-}
-
-// Is the value at a position of t of a class that the table lists, its ordinal in range, if it is an enum value at all?
-#[tactic(auto, using(crate::proofs::Choosing::no_enum, crate::proofs::Classed::class_unlisted, crate::proofs::Classed::class_zero, crate::proofs::Classed::class_range))]
-pub fn validate_value_enum(s: &[u8], index: &[u32], classes: Table, t: &[u8], at: usize) -> bool
-    requires { Keyed enums s.now index.now classes.from classes.to classes.to }
-    ensures { result ≡ enum_holds (classes_at s.now index.now classes.from classes.to) (value_at value t.now at) }
-{
-    if byte_at(t, at) != WireValueType::ENUM {
-        return true;
-    }
-    let class = ahead(t, at, 1);
-    let f = classes.find(s, Section::ENUMS, index, text_part(t, class), classes.from);
-    let Some(w) = f else {
-        return false;
-    };
-    let ordinal = count_at(t, text_end(t, class));
-    0 < ordinal && ordinal <= count_at(s, text_end(s, word_at(index, w)))
 }
 
 // From which word of the index on the entries of a section stand; behind the last one's the room begins.
@@ -73,15 +52,12 @@ pub fn room_start(s: &[u8], index: &[u32]) -> usize
 }
 
 // Where the table of a section lies.
-pub(crate) fn table_in(s: &[u8], index: &[u32], section: u8) -> Table
+pub(crate) fn range_of(s: &[u8], index: &[u32], section: u8) -> Range<usize>
     requires laid { Laid s.now index.now }
     requires section_bound { section ≤ 12 }
-    ensures { result ≡ table_at section (manifest_of s.now) }
+    ensures { (result.start ≡ table_start section (manifest_of s.now)) × (result.end ≡ table_start (suc section) (manifest_of s.now)) }
 {
-    Table {
-        from: start_of(s, index, section),
-        to: start_of(s, index, section + 1),
-    }
+    start_of(s, index, section)..start_of(s, index, section + 1)
 }
 
 // The table of a section: the words that say where its entries start.
@@ -91,28 +67,5 @@ pub fn table_of<'i>(s: &[u8], index: &'i [u32], section: u8) -> &'i [u32]
     requires section_bound { section ≤ 12 }
     ensures { result.now ≡ table_of section s.now index.now }
 {
-    let table = table_in(s, index, section);
-    &index[table.from..table.to]
-}
-
-// From which word of the index on the entries of a section stand; those of section 13 would stand behind all others.
-#[tactic(auto, using(crate::proofs::Indexed::laid_of))]
-pub fn table_start(s: &[u8], index: &[u32], section: u8) -> usize
-    requires tabled { Tabled s.now index.now }
-    requires section_bound { section ≤ 13 }
-    ensures { result ≡ table_start section (manifest_of s.now) }
-{
-    start_of(s, index, section)
-}
-
-// Where the table of a section lies.
-pub fn table_at(s: &[u8], index: &[u32], section: u8) -> Table
-    requires tabled { Tabled s.now index.now }
-    requires section_bound { section ≤ 12 }
-    ensures { result ≡ table_at section (manifest_of s.now) }
-{
-    Table {
-        from: table_start(s, index, section),
-        to: table_start(s, index, section + 1),
-    }
+    &index[range_of(s, index, section)]
 }
