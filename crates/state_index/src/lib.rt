@@ -19,8 +19,6 @@ ghost use Rattle.state_index.specs.Find.{key_at_most, Finds};
 
 use hints::{find_hinted, has_key};
 use keys::{block_key_end, connector_key_end};
-use positions::{compare, rising};
-use sift::different;
 use state::Section;
 use state_wire::{number_at, part, remaining};
 use std::cmp::Ordering;
@@ -85,22 +83,17 @@ pub fn sort(s: &[u8], kind: SortKey, index: &mut [u32], from: usize, count: usiz
     requires { from + count ≤ length index.old }
     ensures { SortedIn (at_most kind s.now) from count index.old index.new }
 {
-    index[from..from + count].sort_unstable_by(|a, b| compare(s, kind, *a, *b));
+    words::sort(s, kind, &mut index[from..from + count]);
 }
 
-// Are the texts at the `count` words from `from` on all different? Where they do not rise already, it sifts them twice and sorts what is left;
-// the words behind are room.
+// Are the texts at the `count` words from `from` on all different? The words behind are room.
 pub fn all_distinct(s: &[u8], index: &mut [u32], from: usize, count: usize) -> bool
     requires { from + count + count ≤ length index.old }
     ensures value { result ≡ all_different (map (text_at s.now) (span index.old from (from + count))) }
     ensures kept { Kept from (from + count + count) index.old index.new }
 {
-    let to = from + count;
-    if rising(s, &index[from..to]) {
-        return true;
-    }
-    let end = to + count;
-    different(s, &mut index[from..end], count)
+    let end = from + count + count;
+    words::all_distinct(s, &mut index[from..end], count)
 }
 
 // Where the key of an entry of a section ends that starts at a position.
