@@ -7,7 +7,7 @@ ghost use Rattle.state_index.specs.Sift.{rolled, spread, mark, slot_at};
 use super::keys::number_at;
 use super::positions::rising;
 use super::words::sort;
-use super::{SortKey, text_part};
+use super::{SortKey, position, text_part};
 use state_key_order::same_bytes;
 
 // A number of few bytes.
@@ -46,13 +46,13 @@ fn slot_at(s: &[u8], m: usize, p: u32) -> usize
     ensures value { result ≡ slot_at s.now m p }
     ensures bound { result < m }
 {
-    (mark_of(text_part(s, p as usize)) / 16777216) as usize % m
+    (mark_of(text_part(s, position(p))) / 16777216) as usize % m
 }
 
 fn same_text(s: &[u8], a: u32, b: u32) -> bool
     ensures { result ≡ same (text_at s.now a) (text_at s.now b) }
 {
-    same_bytes(text_part(s, a as usize), text_part(s, b as usize))
+    same_bytes(text_part(s, position(a)), text_part(s, position(b)))
 }
 
 // Whether slot h, in which v stands, is free: the first position stands in each that is, and in its own.
