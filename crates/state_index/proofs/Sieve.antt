@@ -4,20 +4,16 @@ use mathlib.Core.Path.{◌≡◌, refl, sym, ap, ◌∙◌}
 use mathlib.Core.List.Permᴰ
 use mathlib.Core.List.{List, [], ◌∷◌, ◌++◌, map, append-nil}
 use mathlib.Core.Bool.{Bool, true, false, not, ◌&&◌, ◌||◌, and-true, and-false, and_comm}
-use Prim.Native.Nat.{ℕ, suc, ◌+◌, ◌-◌, ◌≤◌, ◌<◌}
+use Prim.Native.Nat.{ℕ, ◌+◌, ◌≤◌, ◌<◌}
 use native.Mathlib.Numerals.{add-one}
 use native.Mathlib.Omega.{arith}
-use lib.ListN.{length, get_or, take, set, replicate, length-take, length-replicate, length-drop, get_or-replicate}
-use lib.Dec.{eqb, ltb}
-use lib.Seq.{slice, slice-cons, take-set-le, take-suc-set, append_snoc, get_or-set_same, get_or-set_other, get_or-take}
-use borrow.Author.Tests.{eqb-true, eqb-false, lt-ltb, le-ltb}
+use lib.ListN.{length, get_or, take, drop, set, replicate, get_or-replicate, drop_of_length-le}
+use lib.Dec.{eqb}
+use lib.Seq.{drop-cons, drop-set-lt, take-suc-set, append_snoc, get_or-set_same, get_or-set_other}
+use borrow.Author.Tests.{eqb-true, eqb-false}
 use Rattle.format.specs.Lists.{same, is_in, all_different}
 use Rattle.format.proofs.Lists.{same_true}
 use Rattle.state_index.proofs.Order.{apart, is_false}
-use borrow.Rule.Slice.PartMut.{mid_of, put_mid, same_len_mid, take_put}
-use Rattle.std.proofs.lemmas.List.{places}
-use Rattle.std.proofs.Common.{rules}
-use Rattle.state_index.proofs.Lists.{slice-past, slice-set-after, slice-set-before}
 use Rattle.state_index.proofs.Sorting.{perm-map, different-perm}
 
 not-or : (a b : Bool) → (not a && not b) ≡ not (a || b)
@@ -68,15 +64,6 @@ module _ (key : ℕ → List ℕ) (slot : ℕ → ℕ) (first : ℕ) where
     misses-none : (l : List ℕ) (x : ℕ) (r : List ℕ) → hit t x ≡ true → misses t (l ++ x ∷ r) ≡ false
     misses-none [] x r h = rw h
     misses-none (q ∷ l) x r h = ap (λ (m : Bool). not (hit t q) && m) (misses-none l x r h) ∙ and-false (not (hit t q))
-
-    module _ (u : ℕ → ℕ) (e : (g : ℕ) → u g ≡ t g) where
-      misses-same : (l : List ℕ) → misses u l ≡ misses t l
-      misses-same [] = refl
-      misses-same (q ∷ l) = rw (e (slot q), misses-same l)
-
-      settled_same : (l : List ℕ) → Settled t l → Settled u l
-      settled_same [] h = tt
-      settled_same (q ∷ l) h = (rw (e (slot q)) h.0, rw (e (slot q)) h.1, settled_same l h.2)
 
     misses-first : ((q : ℕ) → t (slot q) ≡ first) → (l : List ℕ) → misses t l ≡ not (is_in (key first) (map key l))
     unfolding is_in
@@ -134,87 +121,73 @@ module _ (key : ℕ → List ℕ) (slot : ℕ → ℕ) (first : ℕ) where
           rw (different-middle l x r, misses-other t l x r (ap (λ (v : ℕ). same (key v) (key x)) was ∙ others first x away), misses-placed (l ++ r))
           (turn (is_in (key x) (map key (l ++ r))) (all_different (map key (l ++ r))) (misses t (l ++ r)))
 
--- ---- the words: k positions left at the front, those from i up to n to come, and the table from n on
+-- ---- the positions w, of which k are left at the front and those from i on are to come, and the table t
 
-module _ (key : ℕ → List ℕ) (slot : ℕ → ℕ) (first n : ℕ) where
+module _ (key : ℕ → List ℕ) (slot : ℕ → ℕ) (first : ℕ) where
   abbrev table : List ℕ → ℕ → ℕ
-  table w g = get_or w (n + g) 0
+  table t g = get_or t g 0
 
-  -- what has been told of the first n positions of o
-  pub record Held (o w : List ℕ) (k i : ℕ) : Type 0 where
-    pub settled : Settled key slot first (table w) (take k w)
-    pub same : all_different (map key (take n o)) ≡ good key slot first (table w) (take k w ++ slice i n w)
+  -- what has been told of the positions o
+  pub record Held (o w t : List ℕ) (k i : ℕ) : Type 0 where
+    pub settled : Settled key slot first (table t) (take k w)
+    pub same : all_different (map key o) ≡ good key slot first (table t) (take k w ++ drop i w)
 
   -- the table filled at the start
-  pub held-filled : (w p : List ℕ) → p ≡ replicate (length (mid_of n (length w - n) w)) first → get_or w 0 0 ≡ first → 0 < n → n ≤ length w
-      → ((q : ℕ) → slot q < length w - n) → Held w (put_mid n (length w - n) w p) 0 1
-  held-filled w p e f h g b =
-      let v : List ℕ = put_mid n (length w - n) w p in
-      let len : length v ≡ length w = same_len_mid n (length w - n) w p (simp length-replicate at (ap length e)) in
-      let same : take n v ≡ take n w = take_put n (length w - n) w p g in
-      let zeroth : get_or v 0 0 ≡ first = sym (get_or-take n v 0 0 h) ∙ ap (λ (r : List ℕ). get_or r 0 0) same ∙ get_or-take n w 0 0 h ∙ f in
-      let at : (q : ℕ) → table v (slot q) ≡ first = λ q. let m : slot q < length w - n = b q in rw e (search (rules, places, get_or-replicate, length-replicate, length-take, length-drop)) in
+  pub held-filled : (w t : List ℕ) {m : ℕ} → t ≡ replicate m first → get_or w 0 0 ≡ first → 0 < length w → ((q : ℕ) → slot q < m) → Held w w t 0 1
+  held-filled [] t e f h b = absurd (omega arith)
+  held-filled (x ∷ w) t {m} e f h b =
+      let at : (q : ℕ) → table t (slot q) ≡ first = λ q. rw e (get_or-replicate m (slot q) first 0 (b q)) in
       record {
         settled = tt;
         same =
-            ap (λ (r : List ℕ). all_different (map key r)) (sym same ∙ slice-cons 0 n v 0 h (omega arith))
-            ∙ different-middle key slot first [] (get_or v 0 0) (slice 1 n v)
-            ∙ rw (zeroth, misses-first key slot first (table v) at (slice 1 n v)) (and_comm (not (is_in (key first) (map key (slice 1 n v)))) (all_different (map key (slice 1 n v))));
+            different-middle key slot first [] x w
+            ∙ rw (f, misses-first key slot first (table t) at w) (and_comm (not (is_in (key first) (map key w))) (all_different (map key w)));
       }
 
-module _ {key : ℕ → List ℕ} {slot : ℕ → ℕ} {first n : ℕ} {o w : List ℕ} {k i : ℕ} (held : Held key slot first n o w k i) where
+module _ {key : ℕ → List ℕ} {slot : ℕ → ℕ} {first : ℕ} {o w t : List ℕ} {k i : ℕ} (held : Held key slot first o w t k i) where
   abbrev x : ℕ
   x = get_or w i 0
 
-  next : i < n → n ≤ length w → all_different (map key (take n o)) ≡ good key slot first (table key slot first n w) (take k w ++ x ∷ slice (suc i) n w)
-  next hi hw = held.same ∙ ap (λ (r : List ℕ). good key slot first (table key slot first n w) (take k w ++ r)) (slice-cons i n w 0 hi hw)
+  next : i < length w → all_different (map key o) ≡ good key slot first (table key slot first t) (take k w ++ x ∷ drop (i + 1) w)
+  next h = held.same ∙ ap (λ (r : List ℕ). good key slot first (table key slot first t) (take k w ++ r)) (drop-cons w i 0 h ∙ ap (λ (j : ℕ). x ∷ drop j w) (sym (add-one i)))
 
   -- x goes into its slot h, which is free
-  pub held-placed : {h own : ℕ} {r : Bool} → h ≡ slot x → own ≡ slot first → r ≡ (eqb (get_or w (n + h) 0) first && not (eqb h own)) → r ≡ true
-      → ((p q : ℕ) → key p ≡ key q → slot p ≡ slot q) → k < i → i < n → n + h < length w → Held key slot first n o (set w (n + h) x) k (i + 1)
-  held-placed {h} {own} e d t u shared hk hi l =
-      let v : List ℕ = set w (n + h) x in
-      let f : free key slot first (table key slot first n w) x ≡ true = rw (← e, ← d) (sym t ∙ u) in
-      let here : table key slot first n v (slot x) ≡ x = rw (← e) (get_or-set_same w (n + h) x 0 l) in
-      let there : (g : ℕ) → (g ≡ slot x → ⊥) → table key slot first n v g ≡ table key slot first n w g = λ g d. get_or-set_other w (n + h) (n + g) x 0 (λ z. d (omega arith)) in
-      let front : take k v ≡ take k w = take-set-le k w (n + h) x (omega arith) in
-      let rest : slice (i + 1) n v ≡ slice (suc i) n w = ap (λ (j : ℕ). slice j n v) (add-one i) ∙ slice-set-after (suc i) n w (n + h) x (omega arith) in
+  pub held-placed : {h own : ℕ} {r : Bool} → h ≡ slot x → own ≡ slot first → r ≡ (eqb (get_or t h 0) first && not (eqb h own)) → r ≡ true
+      → ((p q : ℕ) → key p ≡ key q → slot p ≡ slot q) → i < length w → h < length t → Held key slot first o w (set t h x) k (i + 1)
+  held-placed {h} {own} e d s u shared hi l =
+      let v : List ℕ = set t h x in
+      let f : free key slot first (table key slot first t) x ≡ true = rw (← e, ← d) (sym s ∙ u) in
+      let here : table key slot first v (slot x) ≡ x = rw (← e) (get_or-set_same t h x 0 l) in
+      let there : (g : ℕ) → (g ≡ slot x → ⊥) → table key slot first v g ≡ table key slot first t g = λ g d. get_or-set_other t h g x 0 (λ z. d (z ∙ e)) in
       record {
-        settled = rw front (settled-placed key slot first shared (table key slot first n w) (table key slot first n v) x f here there (take k w) held.settled);
-        same = next hi (omega arith) ∙ good_placed key slot first shared (table key slot first n w) (table key slot first n v) x f here there (take k w) (slice (suc i) n w) ∙ rw (front, rest);
+        settled = settled-placed key slot first shared (table key slot first t) (table key slot first v) x f here there (take k w) held.settled;
+        same = next hi ∙ good_placed key slot first shared (table key slot first t) (table key slot first v) x f here there (take k w) (drop (i + 1) w);
       }
 
-  module _ (hk : k < i) (hi : i < n) (hw : n ≤ length w) {h : ℕ} (e : h ≡ slot x) {b : Bool} (t : b ≡ same (key (get_or w (n + h) 0)) (key x)) where
+  module _ (hi : i < length w) {h : ℕ} (e : h ≡ slot x) {b : Bool} (s : b ≡ same (key (get_or t h 0)) (key x)) where
     -- x stays: another text stands in its slot for good
-    pub held-left : b ≡ false → {own : ℕ} {r : Bool} → own ≡ slot first → r ≡ (eqb (get_or w (n + h) 0) first && not (eqb h own)) → r ≡ false
-        → Held key slot first n o (set w k x) (k + 1) (i + 1)
-    held-left f {own} d u g =
-        let v : List ℕ = set w k x in
-        let a : hit key slot first (table key slot first n w) x ≡ false = rw (← e) (sym t ∙ f) in
-        let c : free key slot first (table key slot first n w) x ≡ false = rw (← e, ← d) (sym u ∙ g) in
-        let same-table : (g : ℕ) → table key slot first n v g ≡ table key slot first n w g = λ g. get_or-set_other w k (n + g) x 0 (omega arith) in
-        let front : take (k + 1) v ≡ take k w ++ (x ∷ []) = ap (λ (j : ℕ). take j v) (add-one k) ∙ take-suc-set w k x (omega arith) in
-        let rest : slice (i + 1) n v ≡ slice (suc i) n w = ap (λ (j : ℕ). slice j n v) (add-one i) ∙ slice-set-before (suc i) n w k x (omega arith) in
+    pub held-left : b ≡ false → {own : ℕ} {r : Bool} → own ≡ slot first → r ≡ (eqb (get_or t h 0) first && not (eqb h own)) → r ≡ false
+        → k < i → Held key slot first o (set w k x) t (k + 1) (i + 1)
+    held-left f {own} d u g hk =
+        let a : hit key slot first (table key slot first t) x ≡ false = rw (← e) (sym s ∙ f) in
+        let c : free key slot first (table key slot first t) x ≡ false = rw (← e, ← d) (sym u ∙ g) in
+        let front : take (k + 1) (set w k x) ≡ take k w ++ (x ∷ []) = ap (λ (j : ℕ). take j (set w k x)) (add-one k) ∙ take-suc-set w k x (omega arith) in
+        let rest : drop (i + 1) (set w k x) ≡ drop (i + 1) w = drop-set-lt (i + 1) w k x (omega arith) in
         record {
-          settled = rw front (settled_same key slot first (table key slot first n w) (table key slot first n v) same-table (take k w ++ (x ∷ [])) (settled-more key slot first (table key slot first n w) (take k w) x held.settled a c));
-          same =
-              next hi hw
-              ∙ ap (λ (r : List ℕ). good key slot first (table key slot first n w) r) (sym (append_snoc (take k w) x (slice (suc i) n w)))
-              ∙ rw (front, rest)
-              (ap (λ (m : Bool). all_different (map key (take k w ++ (x ∷ []) ++ slice (suc i) n w)) && m) (sym (misses-same key slot first (table key slot first n w) (table key slot first n v) same-table (take k w ++ (x ∷ []) ++ slice (suc i) n w))));
+          settled = rw front (settled-more key slot first (table key slot first t) (take k w) x held.settled a c);
+          same = next hi ∙ rw (front, rest) (ap (λ (r : List ℕ). good key slot first (table key slot first t) r) (sym (append_snoc (take k w) x (drop (i + 1) w))));
         }
 
     -- its own text does
-    pub held-same : b ≡ true → (z : Bool) → all_different (map key (take n o)) ≡ (ltb n n && z)
-    held-same f z =
-        let d : Bool = all_different (map key (take k w ++ x ∷ slice (suc i) n w)) in
-        next hi hw
-        ∙ ap (λ (m : Bool). d && m) (misses-none key slot first (table key slot first n w) (take k w) x (slice (suc i) n w) (rw (← e) (sym t ∙ f)))
+    pub held-same : b ≡ true → all_different (map key o) ≡ false
+    held-same f =
+        let d : Bool = all_different (map key (take k w ++ x ∷ drop (i + 1) w)) in
+        next hi
+        ∙ ap (λ (m : Bool). d && m) (misses-none key slot first (table key slot first t) (take k w) x (drop (i + 1) w) (rw (← e) (sym s ∙ f)))
         ∙ and-false d
-        ∙ sym (rw (le-ltb n n (omega arith)))
 
-  pub held-end : k < n → n ≤ i → all_different (map key (take n o)) ≡ (ltb k n && all_different (map key (take k w)))
-  held-end hk hi =
+  pub held-end : length w ≤ i → all_different (map key o) ≡ all_different (map key (take k w))
+  held-end h =
       held.same
-      ∙ rw (slice-past i n w hi, append-nil (take k w), misses-settled key slot first (table key slot first n w) (take k w) held.settled, lt-ltb k n hk)
+      ∙ rw (drop_of_length-le w {i = i} h, append-nil (take k w), misses-settled key slot first (table key slot first t) (take k w) held.settled)
       (and-true (all_different (map key (take k w))))

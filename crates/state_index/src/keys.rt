@@ -1,4 +1,5 @@
-// What stands at a position, by tags and lengths alone: bytes, numbers, and where block keys and connector keys end.
+// What stands at a position, by tags and lengths alone: bytes, numbers, and where block keys and connector keys end. Past the end `byte_at`,
+// `count_at` and `number_at` answer 0 and no `Option`: tables are read only where they stand, and a total function asks no case of its callers.
 ghost use Rattle.std.specs.Prelude.{◌≡◌, ◌≤◌, ◌<◌, get_or};
 ghost use Rattle.format.specs.Keys.{block_key, connector_key};
 ghost use Rattle.format.specs.Places.{number_at, past};
@@ -14,7 +15,7 @@ pub fn byte_at(s: &[u8], at: usize) -> u8
     s.get(at).copied().unwrap_or(0)
 }
 
-// The number of the W bytes at a position; 0 where there are fewer.
+// The number of the W bytes at a position; 0 where there are fewer. That of state_wire asks for its bytes, which a reader has tested.
 #[tactic(auto, using(crate::proofs::Texts::number_none), unfolding(format::specs::Places::number_at))]
 fn number<const W: usize>(s: &[u8], at: usize) -> u64
     requires { (0 < W) × (W ≤ 8) }

@@ -18,11 +18,9 @@ ghost use Rattle.state_index.specs.Sort.{Ordered, SortedIn, Kept};
 ghost use Rattle.state_index.specs.Find.{key_at_most, Finds};
 
 use hints::{find_hinted, has_key};
-use keys::{block_key_end, connector_key_end};
-use positions::{compare, rising};
-use sift::different;
+use keys::{block_key_end, connector_key_end, count_at};
 use state::Section;
-use state_wire::{number_at, part, remaining};
+use state_wire::{part, remaining};
 use std::cmp::Ordering;
 
 // What positions are sorted by.
@@ -61,15 +59,11 @@ pub fn ahead(s: &[u8], at: usize, n: usize) -> usize
 }
 
 // Where the string at a position ends.
-#[tactic(auto, unfolding(format::specs::Places::past))]
+#[tactic(auto, using(crate::proofs::Texts::text_past))]
 pub fn text_end(s: &[u8], at: usize) -> usize
     ensures { result ≡ past text s.now at }
 {
-    let left = remaining(s, at);
-    if left < 4 {
-        return s.len();
-    }
-    ahead(s, at + 4, number_at::<4>(s, at) as usize)
+    ahead(s, ahead(s, at, 4), count_at(s, at))
 }
 
 // The text of the string at a position.
@@ -85,22 +79,17 @@ pub fn sort(s: &[u8], kind: SortKey, index: &mut [u32], from: usize, count: usiz
     requires { from + count ≤ length index.old }
     ensures { SortedIn (at_most kind s.now) from count index.old index.new }
 {
-    index[from..from + count].sort_unstable_by(|a, b| compare(s, kind, *a, *b));
+    words::sort(s, kind, &mut index[from..from + count]);
 }
 
-// Are the texts at the `count` words from `from` on all different? Where they do not rise already, it sifts them twice and sorts what is left;
-// the words behind are room.
+// Are the texts at the `count` words from `from` on all different? The words behind are room.
 pub fn all_distinct(s: &[u8], index: &mut [u32], from: usize, count: usize) -> bool
     requires { from + count + count ≤ length index.old }
     ensures value { result ≡ all_different (map (text_at s.now) (span index.old from (from + count))) }
     ensures kept { Kept from (from + count + count) index.old index.new }
 {
-    let to = from + count;
-    if rising(s, &index[from..to]) {
-        return true;
-    }
-    let end = to + count;
-    different(s, &mut index[from..end], count)
+    let end = from + count + count;
+    words::all_distinct(s, &mut index[from..end], count)
 }
 
 // Where the key of an entry of a section ends that starts at a position.
@@ -128,11 +117,18 @@ pub fn key_part(s: &[u8], section: u8, at: usize) -> &[u8]
     }
 }
 
+// Where the entry that a word stands for starts. A cast: `usize` has no `From<u32>`.
+pub(crate) fn position(word: u32) -> usize
+    ensures { result ≡ word }
+{
+    word as usize
+}
+
 pub fn word_at(index: &[u32], i: usize) -> usize
     requires { i < length index.now }
     ensures { result ≡ get_or index.now i 0 }
 {
-    index[i] as usize
+    position(index[i])
 }
 
 impl Table {

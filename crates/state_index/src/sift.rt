@@ -1,12 +1,13 @@
 // A sift of positions in O(k): a table of slots tells most texts apart, and leaves the few whose slot was taken.
-ghost use Rattle.std.specs.Prelude.{◌≡◌, map, not, ◌&&◌, ◌+◌, ◌≤◌, ◌<◌, length, take, eqb, ltb};
+ghost use Rattle.std.specs.Prelude.{◌≡◌, IfSome, IfNone, map, false, not, ◌&&◌, ◌+◌, ◌≤◌, ◌<◌, length, take, eqb};
 ghost use Rattle.format.specs.Lists.{same, all_different};
 ghost use Rattle.state_index.specs.Keys.{text_at};
 ghost use Rattle.state_index.specs.Sift.{rolled, spread, mark, slot_at};
 
 use super::keys::number_at;
 use super::positions::rising;
-use super::{SortKey, sort, text_part};
+use super::words::sort;
+use super::{SortKey, position, text_part};
 use state_key_order::same_bytes;
 
 // A number of few bytes.
@@ -45,13 +46,13 @@ fn slot_at(s: &[u8], m: usize, p: u32) -> usize
     ensures value { result ≡ slot_at s.now m p }
     ensures bound { result < m }
 {
-    (mark_of(text_part(s, p as usize)) / 16777216) as usize % m
+    (mark_of(text_part(s, position(p))) / 16777216) as usize % m
 }
 
 fn same_text(s: &[u8], a: u32, b: u32) -> bool
     ensures { result ≡ same (text_at s.now a) (text_at s.now b) }
 {
-    same_bytes(text_part(s, a as usize), text_part(s, b as usize))
+    same_bytes(text_part(s, position(a)), text_part(s, position(b)))
 }
 
 // Whether slot h, in which v stands, is free: the first position stands in each that is, and in its own.
@@ -61,53 +62,52 @@ fn is_free(v: u32, first: u32, h: usize, own: usize) -> bool
     v == first && h != own
 }
 
-// Leaves of the first n positions those r at the front whose slot was taken by another text: the texts of all n are different just where
-// r is less than n and the texts of these r are. The words behind the n are the table.
-fn sift(s: &[u8], w: &mut [u32], n: usize) -> usize
-    requires { (0 < n) × (n < length w.old) }
-    ensures upper_bound { result ≤ n }
-    ensures same_answer { all_different (map (text_at s.now) (take n w.old)) ≡ (ltb result n && all_different (map (text_at s.now) (take result w.new))) }
+// Leaves at the front of the positions those whose slot was taken by another text, and says how many: the texts of all are different just
+// where the texts of these are. None where two texts are the same.
+fn sift(s: &[u8], positions: &mut [u32], slots: &mut [u32]) -> Option<usize>
+    requires { (0 < length positions.old) × (0 < length slots.old) }
+    ensures left { IfSome result (λ r. (r ≤ length positions.old) × (all_different (map (text_at s.now) positions.old) ≡ all_different (map (text_at s.now) (take r positions.new)))) }
+    ensures alike { IfNone result (all_different (map (text_at s.now) positions.old) ≡ false) }
 {
-    let e = w.len();
-    let m = e - n;
-    let first = w[0];
-    w[n..].fill(first);
+    let m = slots.len();
+    let first = positions[0];
+    slots.fill(first);
     let own = slot_at(s, m, first);
-    // The place of the next word that is left: it moves on only where one is.
+    // The place of the next position that is left: it moves on only where one is.
     let mut k = 0;
-    for i in 1..n {
-        let x = w[i];
-        let h = slot_at(s, m, x);
-        let v = w[n + h];
+    for i in 1..positions.len() {
+        let p = positions[i];
+        let h = slot_at(s, m, p);
+        let v = slots[h];
         if is_free(v, first, h, own) {
-            w[n + h] = x;
+            slots[h] = p;
             continue;
         }
-        if same_text(s, v, x) {
-            return n;
+        if same_text(s, v, p) {
+            return None;
         }
-        w[k] = x;
+        positions[k] = p;
         k += 1;
     }
-    k
+    Some(k)
 }
 
-// Are the texts at the first n words all different? As many words behind them, or more, are room.
-pub(crate) fn different(s: &[u8], w: &mut [u32], n: usize) -> bool
-    requires { (0 < n) × (n + n ≤ length w.old) }
-    ensures { result ≡ all_different (map (text_at s.now) (take n w.old)) }
+// Are the texts at the first `count` words all different? As many words behind them, or more, are slots.
+pub(crate) fn different(s: &[u8], words: &mut [u32], count: usize) -> bool
+    requires { (0 < count) × (count + count ≤ length words.old) }
+    ensures { result ≡ all_different (map (text_at s.now) (take count words.old)) }
 {
-    let left = sift(s, w, n);
-    if left == n {
+    let (positions, slots) = words.split_at_mut(count);
+    let Some(left) = sift(s, positions, slots) else {
         return false;
-    }
+    };
     if left == 0 {
         return true;
     }
-    let last = sift(s, w, left);
-    if last == left {
+    let (positions, slots) = words.split_at_mut(left);
+    let Some(last) = sift(s, positions, slots) else {
         return false;
-    }
-    sort(s, SortKey::Text, w, 0, last);
-    rising(s, &w[..last])
+    };
+    sort(s, SortKey::Text, &mut words[..last]);
+    rising(s, &words[..last])
 }

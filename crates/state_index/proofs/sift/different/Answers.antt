@@ -1,18 +1,26 @@
-use mathlib.Core.Path.{sym, ◌∙◌}
-use Rattle.state_index.proofs.Texts.{texts-sorted, sifted-same, sifted-left, none-different}
+use native.Mathlib.Omega.{arith}
+use Prim.Native.Nat.{ℕ}
+use mathlib.Core.Path.{sym, ap, ◌∙◌}
+use mathlib.Core.List.{List, map}
+use lib.Seq.{take-append-le}
+use Rattle.format.specs.Lists.{all_different}
+use Rattle.state_index.specs.Keys.{text_at}
+use Rattle.state_index.proofs.Texts.{texts-sorted, none-different}
 use Rattle.state_index.proofs.sift.different.Goals as goal
 
-pub returns-then-left-n : goal.returns-then-left-n
-returns-then-left-n c = sifted-same _ c.sift-left.ensures.same_answer c.if-left-n.true
-
 pub returns-then-left-eq0 : goal.returns-then-left-eq0
-returns-then-left-eq0 c = none-different _ _ c.if-left-eq0.true ∙ sym (sifted-left _ c.sift-left.ensures.same_answer c.sift-left.ensures.upper_bound c.if-left-n.false)
-
-pub returns-then-last-left : goal.returns-then-last-left
-returns-then-last-left c = sifted-same _ c.sift-last.ensures.same_answer c.if-last-left.true ∙ sym (sifted-left _ c.sift-left.ensures.same_answer c.sift-left.ensures.upper_bound c.if-left-n.false)
+returns-then-left-eq0 c =
+    none-different _ _ c.if-left-eq0.true
+    ∙ sym c.in-Some.ensures.left.1
+    ∙ ap (λ (l : List ℕ). all_different (map (text_at c.args.s.now) l)) c.split_at_mut-positions.ensures.front
 
 pub returns : goal.returns
 returns c =
-    texts-sorted c.args.s.now c.sort.ensures c.rising.ensures.sorted
-    ∙ sym (sifted-left _ c.sift-last.ensures.same_answer c.sift-last.ensures.upper_bound c.if-last-left.false)
-    ∙ sym (sifted-left _ c.sift-left.ensures.same_answer c.sift-left.ensures.upper_bound c.if-left-n.false)
+    let different = λ (l : List ℕ). all_different (map (text_at c.args.s.now) l) in
+    let all = c.in-Some.ensures.left in
+    let some = c.in-Some-sift.ensures.left in
+    texts-sorted c.args.s.now _ _ _ c.sort.ensures c.rising.ensures.sorted (omega (arith, some.0, c.sift-2.auto.positions)) c.sort.auto.words
+    ∙ sym some.1
+    ∙ ap different (c.split_at_mut-positions-2.ensures.front ∙ take-append-le _ _ _ (omega (arith, all.0, c.sift.auto.positions)))
+    ∙ sym all.1
+    ∙ ap different c.split_at_mut-positions.ensures.front
