@@ -8,7 +8,8 @@ ghost use Rattle.state_wire.specs.Fields.{read_span, read_number, read_tag, boun
 
 use state::{Field, MAX_SNAPSHOT_BYTES, Question, Refusal, Step};
 
-// The offset of a position: it stops at the largest number.
+// The offset of a position: it stops at the largest number. Here and below `as`, since std has no `From` between usize and u64: both have
+// 64 bits.
 pub fn offset(base: u64, position: usize) -> u64
     ensures { result ≡ offset_of base position }
 {
@@ -36,10 +37,7 @@ pub fn take(s: &[u8], at: usize, n: usize) -> Step
     if enough(s, at, n) {
         Ok(at + n)
     } else {
-        Err(Refusal {
-            question: Question(3),
-            at,
-        })
+        Err(Question(3).at(at))
     }
 }
 
@@ -60,36 +58,21 @@ pub fn read_number<const W: usize>(s: &[u8], at: usize) -> Field
     requires width { W ≤ 8 }
     ensures { result ≡ field_of (read_number W s.now at) }
 {
-    if enough(s, at, W) {
-        Ok((number_at::<W>(s, at), at + W))
-    } else {
-        Err(Refusal {
-            question: Question(3),
-            at,
-        })
-    }
+    let next = take(s, at, W)?;
+    Ok((number_at::<W>(s, at), next))
 }
 
-// A tag: a byte below `known`.
+// A tag: a byte below `known`. Question 6 asks no more of it than that: which tags there are is the caller's to say.
 #[tactic(auto, using(crate::proofs::Fields::byte), unfolding(crate::specs::Fields::read_span, crate::specs::Fields::read_number, crate::specs::Fields::read_tag))]
 pub fn read_tag(s: &[u8], at: usize, known: u8) -> Result<(u8, usize), Refusal<usize>>
     ensures { result ≡ field_of (read_tag known s.now at) }
 {
-    if remaining(s, at) == 0 {
-        return Err(Refusal {
-            question: Question(3),
-            at,
-        });
-    }
+    let next = take(s, at, 1)?;
     let tag = s[at];
-    let next = at + 1;
     if tag < known {
         Ok((tag, next))
     } else {
-        Err(Refusal {
-            question: Question(6),
-            at: next,
-        })
+        Err(Question(6).at(next))
     }
 }
 
@@ -100,10 +83,7 @@ pub fn bounded_count(s: &[u8], next: usize, count: u64, least: u64) -> Field
     if count.saturating_mul(least) <= remaining(s, next) as u64 {
         Ok((count, next))
     } else {
-        Err(Refusal {
-            question: Question(7),
-            at: next,
-        })
+        Err(Question(7).at(next))
     }
 }
 
@@ -118,29 +98,17 @@ pub fn step_of<N: Drop>(f: Result<(N, usize), Refusal<usize>>) -> Step
 pub fn string_bounded(s: &[u8], at: usize, limit: usize) -> Step
     ensures { result ≡ step_of (read_text limit s.now at) }
 {
-    let length = read_number::<4>(s, at);
-    let Ok((n, start)) = length else {
-        return step_of(length);
-    };
+    let (n, start) = read_number::<4>(s, at)?;
     let size = n as usize;
     if limit < size {
-        return Err(Refusal {
-            question: Question(4),
-            at,
-        });
+        return Err(Question(4).at(at));
     }
-    let bytes = take(s, start, size);
-    let Ok(next) = bytes else {
-        return bytes;
-    };
+    let next = take(s, start, size)?;
     let valid = text::valid_up_to(part(s, start, next));
     if valid == size {
         Ok(next)
     } else {
-        Err(Refusal {
-            question: Question(5),
-            at: start + valid,
-        })
+        Err(Question(5).at(start + valid))
     }
 }
 
@@ -157,13 +125,10 @@ pub fn part(s: &[u8], a: usize, b: usize) -> &[u8]
     s.get(a..b.min(s.len())).unwrap_or(&s[..0])
 }
 
-// The text of a string, as the part of the lent bytes that it occupies: empty where the reading is refused.
+// The text of a string, as the part of the lent bytes that it occupies. No `Option`: it promises the empty part where the reading is refused,
+// for callers that have read the string before.
 pub fn string_text(s: &[u8], at: usize, limit: usize) -> &[u8]
     ensures { result.now ≡ text_of (read_text limit s.now at) }
 {
-    let read = string_bounded(s, at, limit);
-    let Ok(next) = read else {
-        return part(s, 0, 0);
-    };
-    part(s, at + 4, next)
+    string_bounded(s, at, limit).map_or(part(s, 0, 0), |next| part(s, at + 4, next))
 }

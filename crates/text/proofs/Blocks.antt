@@ -10,6 +10,7 @@ use lib.Seq.{drop-drop}
 use native.Mathlib.Nat.{zero-add, add-zero}
 use native.Mathlib.Omega.{arith}
 use Rattle.std.proofs.lemmas.Bool.{cases_lt, and_parts, or_parts}
+use Rattle.std.specs.Prelude.{Option, None, Some, IfSome}
 use Rattle.text.specs.Valid.{valid_up_to}
 use Rattle.text.specs.Blocks.{Passed, Clean, Quiet, CleanAt, QuietAt, CleanUpTo, pad}
 use Rattle.text.proofs.Steps.{step, ascii, from}
@@ -140,5 +141,7 @@ clean-part a b c h g l = record { on = g; within = omega arith; each = λ k i m.
 pub clean_at : (s : List ℕ) (p : ℕ) → 3 ≤ p → Clean (get_or s (p - 3) 0) (get_or s (p - 2) 0) (get_or s (p - 1) 0) (get_or s p 0) → CleanAt s p
 clean_at s p h c = rw (pad-at s p (p - 3) (omega arith), pad-at s (p + 1) (p - 2) (omega arith), pad-at s (p + 2) (p - 1) (omega arith)) c
 
--- for `text_blocks`, where it ends between two characters
-pub ruleset passed = (blocks-passed)
+-- .. up to a position within them that no character crosses, if one was found
+pub passed-last : {s : List ℕ} {q p : ℕ} (r : Option ℕ) → IfSome r (λ at. (q < at) × (at ≤ p) × QuietAt s at) → CleanUpTo s q p → QuietAt s q → IfSome r (λ at. (q < at) × Passed s q at)
+passed-last None f c u = tt
+passed-last {s} {q} (Some x) f c u = (f.0, blocks-passed s q x (clean-part q x c (omega arith) (omega arith) (omega arith)) u f.2)

@@ -51,8 +51,8 @@ pub(crate) fn ascii_bytes(s: &[u8], from: usize) -> usize
     requires { from ≤ length s.now }
     ensures { Passed s.now from result }
 {
-    match s[from..].iter().position(|b| *b >= 0x80) {
-        Some(i) => from + i,
-        None => s.len(),
-    }
+    s[from..]
+        .iter()
+        .position(|b| *b >= 0x80)
+        .map_or(s.len(), |i| from + i)
 }

@@ -33,11 +33,8 @@ fn wide<const N: usize>(a: u8, rest: &[u8]) -> Option<usize>
     ensures { IsWidth result (char_width (a ∷ rest.now)) }
 {
     let (b, others) = rest.get(..N)?.split_first()?;
-    if (second_from(a)..second_to(a)).contains(b) && others.iter().all(|c| c / 64 == 2) {
-        Some(N + 1)
-    } else {
-        None
-    }
+    let whole = (second_from(a)..second_to(a)).contains(b) && others.iter().all(|c| c / 64 == 2);
+    whole.then_some(N + 1)
 }
 
 // The width of the character that octets begin with.

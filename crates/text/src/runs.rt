@@ -98,8 +98,15 @@ fn clean_end(s: &[u8], from: usize) -> usize
     s.len()
 }
 
+// The last position up to an end that no character reaches past.
+fn last_quiet(s: &[u8], from: usize, end: usize) -> Option<usize>
+    requires { (from ≤ end) × (end ≤ length s.now) }
+    ensures { IfSome result (λ at. (from < at) × (at ≤ end) × QuietAt s.now at) }
+{
+    (from + 1..end + 1).rev().find(|at| quiet(s, *at))
+}
+
 // From the end of a character to the end of another, in a text that is not short.
-#[tactic(auto, using(crate::proofs::Blocks::passed))]
 pub(crate) fn text_blocks(s: &[u8], from: usize) -> Option<usize>
     requires { from ≤ length s.now }
     ensures { IfSome result (λ at. (from < at) × Passed s.now from at) }
@@ -108,11 +115,5 @@ pub(crate) fn text_blocks(s: &[u8], from: usize) -> Option<usize>
         return None;
     }
     let open = opening(s, from)?;
-    let end = clean_end(s, clean_blocks(s, open, 32));
-    for at in (from + 1..end + 1).rev() {
-        if quiet(s, at) {
-            return Some(at);
-        }
-    }
-    None
+    last_quiet(s, from, clean_end(s, clean_blocks(s, open, 32)))
 }
