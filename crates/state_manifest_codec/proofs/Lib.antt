@@ -4,6 +4,7 @@ mod Filling
 mod Laid
 mod Members
 mod Numbers
+mod Reading
 mod Sections
 mod Walking
 mod Whole
