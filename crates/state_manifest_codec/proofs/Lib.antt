@@ -1,6 +1,7 @@
 mod Ascending
 mod Choices
 mod Filling
+mod Keys
 mod Laid
 mod Members
 mod Numbers
