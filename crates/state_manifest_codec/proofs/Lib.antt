@@ -1,11 +1,10 @@
 mod Ascending
-mod Choices
 mod Filling
 mod Keys
 mod Laid
 mod Members
 mod Numbers
-mod Reading
+pub mod Reading
 mod Sections
 mod Walking
 mod Whole
