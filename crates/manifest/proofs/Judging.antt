@@ -7,7 +7,7 @@ use lib.ListN.{length, take, length-append}
 use lib.Seq.{take_at, take-take}
 use borrow.Author.Tests.{le-leb}
 use Rattle.state.specs.Bytes.{AreBytes}
-use Rattle.std.specs.Prelude.{Ok, Err}
+use Rattle.std.specs.Prelude.{Result, Ok, Err}
 use Rattle.state.specs.Outcome.{got, refused, heed, said, refusal, Stepped}
 use Rattle.state.specs.declared.Question.{Question}
 use Rattle.state.specs.declared.Refusal.{Refusal}
@@ -85,6 +85,11 @@ module _ {s old new : List ℕ} {n : ℕ} (bytes : AreBytes s) {r : Stepped} (re
       }
 
 -- ---- the answer
+-- a question over the whole, refused at the manifest's end
+abbrev pub located : ℕ → Result Unit Question → Result Unit (Refusal ℕ)
+located n (Ok u) = Ok u
+located n (Err q) = Err (record { question = q; at = n })
+
 -- the first words of the tables are the starts
 pub tabled-starts : {s index : List ℕ} → Tabled s index → (12 ≤ length index) × (take 12 index ≡ manifest_starts limit s)
 tabled-starts {s} {index} t =
@@ -112,7 +117,7 @@ module _ {s old new : List ℕ} (revision : ℕ) {r : Stepped} (reads : Reads s 
     judge-is = rw (read_is bytes reads next)
 
     -- refused by a question over the whole
-    pub judge-no : {d : Question} → Err d ≡ said (first_failing target_bound_classes revision (manifest_of s)) → Judges s revision (Err (record { question = d; at = n })) old last
+    judge-no : {d : Question} → Err d ≡ said (first_failing target_bound_classes revision (manifest_of s)) → Judges s revision (Err (record { question = d; at = n })) old last
     judge-no {d = d} asks = record {
       is = rw judge-is (ap (λ (x : ℕ). Err (refusal x n)) (sym no.0) ∙ heed-no (first_failing target_bound_classes revision (manifest_of s)) n _ no.1);
       tabled = λ k i. cc;
@@ -127,10 +132,22 @@ module _ {s old new : List ℕ} (revision : ℕ) {r : Stepped} (reads : Reads s 
         late = late-failing target_bound_classes revision (manifest_of s) no.1
 
     -- accepted
-    pub judge-yes : {u : Unit} → Ok u ≡ said (first_failing target_bound_classes revision (manifest_of s)) → Judges s revision (Ok n) old last
+    judge-yes : {u : Unit} → Ok u ≡ said (first_failing target_bound_classes revision (manifest_of s)) → Judges s revision (Ok n) old last
     judge-yes asks = record {
       is = rw (judge-is, said-yes (first_failing target_bound_classes revision (manifest_of s)) (sym asks));
       tabled = λ k i. leaves.tabled;
       untouched = λ x i. cc;
       long = leaves.long ∙ reads.long;
     }
+
+    -- as code hears them: the question's refusal is passed on
+    pub judge-stops : (v : Result Unit Question) → v ≡ said (first_failing target_bound_classes revision (manifest_of s)) → {m : Result Unit (Refusal ℕ)} → m ≡ located n v → {d : Refusal ℕ} → m ≡ Err d → Judges s revision (Err d) old last
+    judge-stops (Ok u) asks l e = cc (sym l ∙ e)
+    judge-stops (Err q) asks l {d} e =
+        let z : ◌≡◌ {A = Result Unit (Refusal ℕ)} (Err (record { question = q; at = n })) (Err d) = sym l ∙ e in
+        let i : record { question = q; at = n } ≡ d = cc in
+        subst (λ (x : Refusal ℕ). Judges s revision (Err x) old last) i (judge-no asks)
+
+    pub judge-goes : (v : Result Unit Question) → v ≡ said (first_failing target_bound_classes revision (manifest_of s)) → {m : Result Unit (Refusal ℕ)} → m ≡ located n v → {u : Unit} → m ≡ Ok u → Judges s revision (Ok n) old last
+    judge-goes (Ok u) asks l e = judge-yes asks
+    judge-goes (Err q) asks l e = cc (sym l ∙ e)

@@ -12,11 +12,15 @@ use state_manifest_codec::read_manifest;
 use state_manifest_validation::validate_manifest;
 use state_wire::offset;
 
+// The second and last question about lengths alone, the one about the index's. By document 01 refusals 1 and 2 stand at offset 0,
+// and after 2 the index is untouched.
+const INDEX_LENGTH: u8 = 2;
+
 // Where a refusal stands outside: questions 1 and 2 at 0, the others from the base on.
 fn offset_at(base: u64, refusal: Refusal<usize>) -> u64
     ensures { result ≡ offset_at base refusal.question.0 refusal.at }
 {
-    if refusal.question.0 <= 2 {
+    if refusal.question.0 <= INDEX_LENGTH {
         0
     } else {
         offset(base, refusal.at)
@@ -38,13 +42,10 @@ pub fn refused(base: u64, refusal: Refusal<usize>, index: &mut [u32]) -> Refusal
     ensures value { result ≡ outside base refusal }
     ensures index_after { index.new ≡ cond (eqb refusal.question.0 2) index.old (replicate (length index.old) 0) }
 {
-    if refusal.question.0 != 2 {
+    if refusal.question.0 != INDEX_LENGTH {
         clear(index, 0, index.len());
     }
-    Refusal {
-        question: refusal.question,
-        at: offset_at(base, refusal),
-    }
+    refusal.question.at(offset_at(base, refusal))
 }
 
 // Acceptance: the first twelve words are the starts, and the others are cleared.
@@ -62,14 +63,9 @@ pub fn accepted(index: &mut [u32]) -> Starts
 pub fn judge(s: &[u8], revision: u32, index: &mut [u32]) -> Step
     ensures { Judges s.now revision result index.old index.new }
 {
-    let read = read_manifest(s, index);
-    let Ok(n) = read else {
-        return read;
-    };
-    match validate_manifest(s, revision, index) {
-        Ok(()) => Ok(n),
-        Err(question) => Err(Refusal { question, at: n }),
-    }
+    let end = read_manifest(s, index)?;
+    validate_manifest(s, revision, index).map_err(|question| question.at(end))?;
+    Ok(end)
 }
 
 // Reads a manifest and asks all questions about it. An index of fewer than n ÷ 2 + 16 words is question 2.
@@ -77,6 +73,7 @@ pub fn decode_manifest(bytes: &[u8], base: u64, revision: u32, index: &mut [u32]
     ensures value { result ≡ decode_manifest target_bound_classes bytes.now base revision index.old }
     ensures index_after { index.new ≡ decoded_index target_bound_classes bytes.now revision index.old }
 {
+    // A match, since both ends change the index.
     match judge(bytes, revision, index) {
         Ok(_) => Ok(accepted(index)),
         Err(refusal) => Err(refused(base, refusal, index)),

@@ -9,6 +9,10 @@ use mathlib.Core.List.{List, [], ◌∷◌}
 use lib.Dec.{leb}
 use borrow.Author.Tests.{leb-true}
 use Rattle.state.specs.Bytes.{span}
+use denote.Enum.Bare.{sameb, same_true}
+use Rattle.std.proofs.Common.{rules}
+use Rattle.state_manifest_codec.specs.contracts.layouts.Asked.{the_type}
+use Rattle.state_manifest_codec.specs.declared.layouts.Asked.{Asked}
 use Rattle.text.proofs.Blocks.{both}
 use Rattle.format.specs.Format.{wire, plain, Rule, free, distinct, early, late, from, above, kept, after_key, after_entry, after_all}
 use Rattle.format.specs.Keys.{block_key, connector_key}
@@ -17,7 +21,7 @@ use Rattle.format.specs.Least.{least, all_below}
 use Rattle.format.proofs.Complete.{all-below}
 use Rattle.state_manifest_codec.specs.declared.layouts.Layout.{Layout}
 use Rattle.std.specs.Prelude.{Some}
-use Rattle.state_manifest_codec.specs.declared.layouts.Asked.TheVariants.{AfterKey, AfterEntry}
+use Rattle.state_manifest_codec.specs.declared.layouts.Asked.TheVariants.{Never, AfterKey}
 use Rattle.state_manifest_codec.specs.Layouts.{asked_by, layout_of}
 use Rattle.state_manifest_codec.specs.Tables.{prior}
 use Rattle.state_manifest_codec.proofs.Numbers.{numbered_high}
@@ -62,18 +66,25 @@ keeps (distinct r) k ks h = let z : ◌≡◌ {A = ℕ} 0 1 = cc in absurd (omeg
 keeps (early r) k ks h = refl
 keeps (late r) k ks h = refl
 
--- question 9 right after a key, and after an entry
-key-asked : (u : Rule) (k : List ℕ) (ks : List (List ℕ)) {b : Bool} → (asked_by u ≡ AfterKey → b ≡ above k ks) → ((asked_by u ≡ AfterKey → ⊥) → b ≡ true) → after_key u k ks ≡ b
-key-asked free k ks a n = sym (n (λ e. cc))
-key-asked (distinct r) k ks a n = sym (n (λ e. cc))
-key-asked (early r) k ks a n = sym (a refl)
-key-asked (late r) k ks a n = sym (n (λ e. cc))
+-- question 9 right after a key and after an entry, from what was answered for both: `b`, where it is asked at all
+key-asked : (u : Rule) (k : List ℕ) (ks : List (List ℕ)) {b c : Bool} → ((asked_by u ≡ Never → ⊥) → b ≡ above k ks) → (asked_by u ≡ Never → b ≡ true) → (asked_by u ≡ AfterKey → b ≡ c) → ((asked_by u ≡ AfterKey → ⊥) → c ≡ true) → after_key u k ks ≡ c
+key-asked free k ks a n y z = sym (z (λ e. cc))
+key-asked (distinct r) k ks a n y z = sym (z (λ e. cc))
+key-asked (early r) k ks a n y z = sym (a (λ e. cc)) ∙ y refl
+key-asked (late r) k ks a n y z = sym (z (λ e. cc))
 
-entry-asked : (u : Rule) (k : List ℕ) (ks : List (List ℕ)) {b : Bool} → (asked_by u ≡ AfterEntry → b ≡ above k ks) → ((asked_by u ≡ AfterEntry → ⊥) → b ≡ true) → after_entry u k ks ≡ b
-entry-asked free k ks a n = sym (n (λ e. cc))
-entry-asked (distinct r) k ks a n = sym (n (λ e. cc))
-entry-asked (early r) k ks a n = sym (n (λ e. cc))
-entry-asked (late r) k ks a n = sym (a refl)
+entry-asked : (u : Rule) (k : List ℕ) (ks : List (List ℕ)) {b : Bool} → ((asked_by u ≡ Never → ⊥) → b ≡ above k ks) → (asked_by u ≡ Never → b ≡ true) → (asked_by u ≡ AfterKey → b ≡ true) → after_entry u k ks ≡ b
+entry-asked free k ks a n y = sym (n refl)
+entry-asked (distinct r) k ks a n y = sym (n refl)
+entry-asked (early r) k ks a n y = sym (y refl)
+entry-asked (late r) k ks a n y = sym (a (λ e. cc))
+
+-- the test whether it is asked after a key
+pub asked_on : (a : Asked) → sameb the_type a AfterKey ≡ true → a ≡ AfterKey
+asked_on a e = same_true the_type (search rules) a AfterKey e
+
+pub asked_off : (a : Asked) → sameb the_type a AfterKey ≡ false → a ≡ AfterKey → ⊥
+asked_off a e q = let z : sameb the_type AfterKey AfterKey ≡ false = ap (λ (x : Asked). sameb the_type x AfterKey) (sym q) ∙ e in cc
 
 skips : (u : Rule) (p : ℕ) → from u p ≡ p + from u 0
 skips free p = sym (add-zero p)
@@ -105,11 +116,12 @@ module _ (e : Section) {layout : Layout} (l : layout ≡ layout_of e) where
     from-skip : span s (from e.rule p) k ≡ span s (p + layout.skip) k
     from-skip = rw (l, skips e.rule p)
 
-    pub key-told : {b c : Bool} → (layout.asked ≡ AfterKey → b ≡ above (span s (p + layout.skip) k) ks) → ((layout.asked ≡ AfterKey → ⊥) → b ≡ true) → b ≡ c → after_key e.rule (span s (from e.rule p) k) ks ≡ c
-    key-told a n h = ap (λ x. after_key e.rule x ks) from-skip ∙ key-asked e.rule _ ks (λ q. a (asks ∙ q)) (λ q. n (λ z. q (sym asks ∙ z))) ∙ h
+    module _ {b : Bool} (a : (layout.asked ≡ Never → ⊥) → b ≡ above (span s (p + layout.skip) k) ks) (n : layout.asked ≡ Never → b ≡ true) where
+      pub key-told : {c : Bool} → (layout.asked ≡ AfterKey → b ≡ c) → ((layout.asked ≡ AfterKey → ⊥) → c ≡ true) → after_key e.rule (span s (from e.rule p) k) ks ≡ c
+      key-told y z = ap (λ x. after_key e.rule x ks) from-skip ∙ key-asked e.rule _ ks (λ q. a (λ r. q (sym asks ∙ r))) (λ q. n (asks ∙ q)) (λ q. y (asks ∙ q)) (λ q. z (λ r. q (sym asks ∙ r)))
 
-    pub entry-told : {b c : Bool} → (layout.asked ≡ AfterEntry → b ≡ above (span s (p + layout.skip) k) ks) → ((layout.asked ≡ AfterEntry → ⊥) → b ≡ true) → b ≡ c → after_entry e.rule (span s (from e.rule p) k) ks ≡ c
-    entry-told a n h = ap (λ x. after_entry e.rule x ks) from-skip ∙ entry-asked e.rule _ ks (λ q. a (asks ∙ q)) (λ q. n (λ z. q (sym asks ∙ z))) ∙ h
+      pub entry-told : (layout.asked ≡ AfterKey → b ≡ true) → after_entry e.rule (span s (from e.rule p) k) ks ≡ b
+      entry-told y = ap (λ x. after_entry e.rule x ks) from-skip ∙ entry-asked e.rule _ ks (λ q. a (λ r. q (sym asks ∙ r))) (λ q. n (asks ∙ q)) (λ q. y (asks ∙ q))
 
     pub key-kept : last_only e.rule ≡ true → kept e.rule (span s (from e.rule p) k) ks ≡ prior (Some (span s (p + layout.skip) k))
     key-kept h = keeps e.rule _ ks h ∙ ap (λ x. x ∷ []) from-skip

@@ -1,9 +1,10 @@
 mod Ascending
-mod Choices
 mod Filling
+mod Keys
 mod Laid
 mod Members
 mod Numbers
+pub mod Reading
 mod Sections
 mod Walking
 mod Whole

@@ -1,10 +1,11 @@
 -- The members of a class: their texts are read one after another, and then asked whether they are all different.
-use Prim.Native.Nat.{ℕ, zero, suc, ◌+◌, ◌≤◌}
+use Prim.Native.Nat.{ℕ, zero, suc, ◌+◌, ◌-◌, ◌≤◌}
 use mathlib.Core.Path.{◌≡◌, refl, sym, ap, ◌∙◌}
 use mathlib.Core.Bool.{Bool, true, false}
 use mathlib.Core.List.{List, [], ◌∷◌, ◌++◌, map, append-nil}
-use lib.ListN.{length}
-use lib.Seq.{append_snoc}
+use native.Mathlib.Omega.{arith}
+use lib.ListN.{length, take, drop}
+use lib.Seq.{append_snoc, length-take-le, take_at, take-length}
 use Rattle.state.specs.declared.Refusal.{Refusal}
 use Rattle.std.specs.Prelude.{Ok, Err}
 use Rattle.state.specs.Bytes.{span}
@@ -13,17 +14,16 @@ use Rattle.format.specs.Lists.{all_different}
 use Rattle.format.specs.Format.{plain, free, distinct, text, done, ◌then◌, scan, scan_entries}
 use Rattle.format.specs.Places.{end_at, starts}
 use Rattle.format.proofs.Steps.{done-step}
-use Rattle.state_manifest_codec.proofs.Filling.{entry-end, fills-before, fills-table, fills-front, fills-stop}
-use Rattle.format.proofs.Entries.{scan-entries, forgets, going_start}
+use Rattle.state_manifest_codec.proofs.Filling.{entry-end}
+use Rattle.format.proofs.Entries.{scan-entries, forgets, counted-fits, going_start}
 use Rattle.format.specs.Manifest.{members}
 use Rattle.state.specs.Outcome.{field_of, Stepped, NumberRead, refuses}
 use Rattle.state_wire.specs.Fields.{read_count}
-use Rattle.state_manifest_codec.specs.Tables.{Fills}
+use Rattle.state_manifest_codec.specs.Tables.{Lists, Space}
 use Rattle.format.proofs.Places.{starts-length}
 use Rattle.format.specs.Values.{value_at}
 use Rattle.format.proofs.Values.{value-got}
 use Rattle.state_index.specs.Keys.{text_at}
-use Rattle.state_index.specs.Sort.{Kept}
 
 module _ (limit : ℕ) (s : List ℕ) where
   -- a text that was read is the one that stands there
@@ -60,25 +60,33 @@ module _ (limit : ℕ) (s : List ℕ) where
       go (Err d) e i = none_more n at d ks e
 
 -- what `read_members` answers, from what the readers of the count and of the texts and the test of the texts answered
-module _ (limit : ℕ) (s : List ℕ) (at : ℕ) {g : NumberRead} {n m : ℕ} (eg : g ≡ field_of (read_count 4 4 s at)) (ig : g ≡ Ok (n, m)) {r : Stepped} {word : ℕ} {old new : List ℕ}
-    (f : Fills r (scan_entries limit free text done s n m []) (starts limit (text then done) s n m) word old new) where
-  whole : scan limit members s at ≡ onward r (λ z. asked (all_different (map (text_at s) (starts limit (text then done) s n m))) 8 z (Ok z))
-  unfolding members asks
-  whole = (going_start limit s at 4 4 (distinct plain) text done eg ig).is ∙ members-asked limit s n m [] ∙ rw f.is
+module _ (s : List ℕ) (at : ℕ) {g : NumberRead} {n m : ℕ} (eg : g ≡ field_of (read_count 4 4 s at)) (ig : g ≡ Ok (n, m)) {words : List ℕ} (q : Space s words at) where
+  -- there are two words for each
+  pub members-room : (n + n ≤ length words) × (m ≤ length s)
+  members-room = let k = counted-fits s at 4 4 eg ig in (omega (arith, k.1, k.2, k.3, q.there), k.2)
 
-  pub members-stop : {d : Refusal ℕ} → r ≡ Err d → r ≡ scan limit members s at
-  members-stop h = h ∙ sym (whole ∙ rw h)
+  pub members-taken : length (take n words) ≡ n
+  members-taken = length-take-le n words (omega (arith, members-room))
 
-  module _ {e : ℕ} (h : r ≡ Ok e) (l : word ≤ length old) {b : Bool} {last : List ℕ} (d : (b ≡ all_different (map (text_at s) (span new word (word + n)))) × Kept word (word + n + n) new last) where
-    table : span new word (word + n) ≡ starts limit (text then done) s n m
-    table = ap (λ (x : ℕ). span new word (word + x)) (sym (starts-length limit (text then done) s n m)) ∙ fills-table f h l
+  module _ (limit : ℕ) {r : Stepped} {names : List ℕ} (f : Lists r (scan_entries limit free text done s (length (take n words)) m []) (starts limit (text then done) s (length (take n words)) m) names) where
+    whole : scan limit members s at ≡ onward r (λ z. asked (all_different (map (text_at s) (starts limit (text then done) s (length (take n words)) m))) 8 z (Ok z))
+    unfolding members asks
+    whole = (going_start limit s at 4 4 (distinct plain) text done eg ig).is ∙ members-asked limit s n m [] ∙ ap (λ (k : ℕ). asks limit s k m []) (sym members-taken) ∙ rw f.is
 
-    pub members-different : b ≡ true → Fills (Ok e) (scan limit members s at) [] word old last
-    members-different t = record {
-      is = sym (whole ∙ rw (h, ← table, ← d.0, t));
-      long = d.1.long ∙ f.long;
-      front = λ z q. fills-front word old last (d.1.front ∙ fills-before f h l);
-    }
+    pub members-stop : {d : Refusal ℕ} → r ≡ Err d → r ≡ scan limit members s at
+    members-stop h = h ∙ sym (whole ∙ rw h)
 
-    pub members-same : b ≡ false → Fills (refuses 8 e) (scan limit members s at) [] word old last
-    members-same t = fills-stop (sym (whole ∙ rw (h, ← table, ← d.0, t))) refl (d.1.long ∙ f.long)
+    module _ {e : ℕ} (h : r ≡ Ok e) (l : length names ≡ length (take n words)) {b : Bool} (d : b ≡ all_different (map (text_at s) (span (names ++ drop n words) 0 (0 + n)))) where
+      table : span (names ++ drop n words) 0 (0 + n) ≡ starts limit (text then done) s (length (take n words)) m
+      table =
+          ap (λ (x : ℕ). take x (names ++ drop n words)) c ∙ take_at names (drop n words) n (l ∙ members-taken) ∙ sym (take-length names)
+          ∙ ap (λ (x : ℕ). take x names) (l ∙ sym (starts-length limit (text then done) s (length (take n words)) m)) ∙ f.front e h
+        where
+          c : 0 + n - 0 ≡ n
+          c = omega arith
+
+      pub members-different : b ≡ true → Ok e ≡ scan limit members s at
+      members-different t = sym (whole ∙ rw (h, ← table, ← d, t))
+
+      pub members-same : b ≡ false → refuses 8 e ≡ scan limit members s at
+      members-same t = sym (whole ∙ rw (h, ← table, ← d, t))

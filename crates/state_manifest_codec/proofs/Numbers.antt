@@ -52,4 +52,6 @@ reads-none limit f s at e = rw e (done-step limit s at)
 
 pub ruleset numbered_found = (numbered_low, numbered_high)
 
+pub ruleset rest_found = (numbered_low, numbered_high, done-step)
+
 pub ruleset key_found = (text-low, text-high, text-step)

@@ -6,6 +6,7 @@ use mathlib.Core.Path.{◌≡◌, refl, sym, ap, ◌∙◌}
 use mathlib.Core.List.{List, ◌∷◌, ◌++◌, map, append-nil, append_assoc}
 use lib.ListN.{length, take, drop, set, length-set, length-take, take-append-drop, drop_of_length-le}
 use lib.Seq.{take-suc-set, take-set-lt, drop-set-lt, take-take, drop-cons, length-take-le, append_snoc, drop-append-le}
+use borrow.Rule.Slice.PartMut.{mid_of, mid_len, put_mid}
 use Rattle.state.specs.declared.Refusal.{Refusal}
 use Rattle.std.specs.Prelude.{Ok, Err}
 use Rattle.state.specs.Outcome.{Stepped}
@@ -16,8 +17,8 @@ use Rattle.format.specs.Places.{count_at, end_of, end_at, starts, section_starts
 use Rattle.format.proofs.Bounds.{list-takes, list_counts, next-within}
 use Rattle.format.proofs.Places.{starts-length}
 use Rattle.format.proofs.Steps.{scan-then, then-stop, done-step}
-use Rattle.state_manifest_codec.specs.Tables.{Room, Fills}
-use Rattle.state_manifest_codec.proofs.Filling.{fills-before, fills-stop}
+use Rattle.state_manifest_codec.specs.Tables.{Room, Space, Fills, Lists}
+use Rattle.state_manifest_codec.proofs.Filling.{fills-lent, fills-before, fills-stop}
 use Rattle.state_manifest_codec.proofs.Laid.{key-least}
 
 -- the sections from number n on
@@ -96,15 +97,24 @@ module _ {limit : ℕ} {s old : List ℕ} {n at w : ℕ} {new : List ℕ} (g : R
     pub reading-word : n - 1 < length new
     reading-word = omega (arith, g.from, g.above, word_fits)
 
-    pub reading-room : Room s (set new (n - 1) v) at w
-    reading-room = record { short = g.room.short; here = g.here; used = g.used; there = omega (arith, g.room.there, g.long, length-set new (n - 1) v) }
+    pub reading-lent : w ≤ length (set new (n - 1) v)
+    reading-lent = omega (arith, word_fits, length-set new (n - 1) v)
 
-    module _ {r : Stepped} {next : List ℕ} (f : Fills r (scan limit (counted (numbered n)) s at) (starts limit (entry (numbered n)) s (count_at s at) (at + 4)) w (set new (n - 1) v) next) where
+    pub reading-space : Space s (mid_of w (length (set new (n - 1) v) - w) (set new (n - 1) v)) at
+    reading-space = record { short = g.room.short; here = g.here; there = omega (arith, g.room.there, g.used, g.long, length-set new (n - 1) v, reading-lent, mid_len w (length (set new (n - 1) v)) (set new (n - 1) v) (omega arith)) }
+
+    module _ {r : Stepped} {part : List ℕ} (ls : Lists r (scan limit (counted (numbered n)) s at) (starts limit (entry (numbered n)) s (count_at s at) (at + 4)) part) (lp : length part ≡ length (mid_of w (length (set new (n - 1) v) - w) (set new (n - 1) v))) where
+      abbrev next : List ℕ
+      next = put_mid w (length (set new (n - 1) v) - w) (set new (n - 1) v) part
+
+      f : Fills r (scan limit (counted (numbered n)) s at) (starts limit (entry (numbered n)) s (count_at s at) (at + 4)) w (set new (n - 1) v) next
+      f = fills-lent ls reading-lent lp
+
       pub reading-long : length next ≡ length old
       reading-long = f.long ∙ length-set new (n - 1) v ∙ g.long
 
-      pub reading-stop : {ps : List ℕ} {d : Refusal ℕ} → r ≡ Err d → Fills r (scan limit manifest s 0) ps 0 old next
-      reading-stop i = fills-stop (i ∙ sym (whole ∙ rw (← f.is, i))) i reading-long
+      pub reading-stop : {ps : List ℕ} {x : Stepped} {d : Refusal ℕ} → r ≡ Err d → x ≡ Err d → Fills x (scan limit manifest s 0) ps 0 old next
+      reading-stop i q = fills-stop (q ∙ sym (whole ∙ rw (← f.is, i))) q reading-long
 
       module _ {e : ℕ} (i : r ≡ Ok e) where
         -- a section's bytes: its count, and four at least for each entry
@@ -127,7 +137,7 @@ module _ {limit : ℕ} {s old : List ℕ} {n at w : ℕ} {new : List ℕ} (g : R
             let k : n ≡ suc (n - 1) = omega (arith, g.from) in
             ap (λ (l : List ℕ). l ++ section_starts limit (map counted (later (n + 1))) s e)
             (sym (take-take n w next (omega (arith, g.above)))
-            ∙ ap (take n) (fills-before f i (omega (arith, word_fits, length-set new (n - 1) v)))
+            ∙ ap (take n) (fills-before f i reading-lent)
             ∙ take-take n w (set new (n - 1) v) (omega (arith, g.above))
             ∙ ap (λ (x : ℕ). take x (set new (n - 1) v)) k ∙ take-suc-set new (n - 1) v reading-word)
             ∙ append_snoc (take (n - 1) new) v (section_starts limit (map counted (later (n + 1))) s e)
@@ -142,7 +152,7 @@ module _ {limit : ℕ} {s old : List ℕ} {n at w : ℕ} {new : List ℕ} (g : R
             ap (λ (l : List ℕ). drop 12 l ++ entry_starts limit (later (n + 1)) s e)
             (ap (λ (x : ℕ). take (w + x) next) (sym (starts-length limit (entry (numbered n)) s (count_at s at) (at + 4))) ∙ f.front e i)
             ∙ ap (λ (l : List ℕ). l ++ entry_starts limit (later (n + 1)) s e)
-            (drop-append-le 12 (take w (set new (n - 1) v)) ps (omega (arith, g.above, length-take-le w (set new (n - 1) v) (omega (arith, word_fits, length-set new (n - 1) v))))
+            (drop-append-le 12 (take w (set new (n - 1) v)) ps (omega (arith, g.above, length-take-le w (set new (n - 1) v) reading-lent))
             ∙ ap (λ (l : List ℕ). drop 12 l ++ ps) (take-set-lt w new (n - 1) v (omega (arith, g.above, g.from)))
             ∙ ap (λ (l : List ℕ). l ++ ps) (drop-set-lt 12 (take w new) (n - 1) v (omega (arith, g.from))))
             ∙ append_assoc (drop 12 (take w new)) ps (entry_starts limit (later (n + 1)) s e)

@@ -20,3 +20,14 @@ pub record Fills (r answer : Stepped) (ps : List ℕ) (w : ℕ) (old new : List 
   pub is : r ≡ answer
   pub long : length new ≡ length old
   pub front : (n : ℕ) → r ≡ Ok n → take (w + length ps) new ≡ take w old ++ ps
+
+-- the same of words for what is left alone: half as many as there are bytes left, and more than three
+pub record Space (s words : List ℕ) (at : ℕ) : Type 0 where
+  pub short : length s ≤ max_snapshot_bytes
+  pub here : at ≤ length s
+  pub there : 7 + length s ≤ at + 2 * length words
+
+-- the answer is a definition's; and where it goes on, the first words are ps
+pub record Lists (r answer : Stepped) (ps words : List ℕ) : Type 0 where
+  pub is : r ≡ answer
+  pub front : (n : ℕ) → r ≡ Ok n → take (length ps) words ≡ ps

@@ -15,7 +15,7 @@ ghost use Rattle.format.specs.Places.{manifest_starts, manifest_entries};
 ghost use Rattle.state_manifest_codec.specs.Tables.{Room, Fills};
 ghost use Rattle.state_manifest_codec.specs.Reads.{Reads};
 
-use state::{MAX_SNAPSHOT_BYTES, Question, Refusal, Section, Step};
+use state::{MAX_SNAPSHOT_BYTES, Question, Section, Step};
 use state_wire::number_at;
 use tables::read_list;
 use values::read_portability;
@@ -25,21 +25,14 @@ fn read_sections(s: &[u8], index: &mut [u32]) -> Step
     requires { Room s.now index.old 0 12 }
     ensures { Fills result (scan max_snapshot_bytes manifest s.now 0) (manifest_starts max_snapshot_bytes s.now ++ manifest_entries max_snapshot_bytes s.now) 0 index.old index.new }
 {
-    let first = read_portability(s, 0);
-    let Ok(p) = first else {
-        return first;
-    };
+    let mut at = read_portability(s, 0)?;
     index[0] = 0;
-    let mut at = p;
     let mut word = 12;
     for section in Section::ENUMS..=Section::INPUT_DEFINITIONS {
-        index[section as usize - 1] = at as u32;
-        let list = read_list(s, section, at, index, word);
-        let Ok(e) = list else {
-            return list;
-        };
+        index[usize::from(section) - 1] = at as u32;
+        let next = read_list(s, section, at, &mut index[word..])?;
         word += number_at::<4>(s, at) as usize;
-        at = e;
+        at = next;
     }
     Ok(at)
 }
@@ -49,28 +42,16 @@ pub fn read_manifest(s: &[u8], index: &mut [u32]) -> Step
     ensures { Reads s.now result index.old index.new }
 {
     if MAX_SNAPSHOT_BYTES < s.len() {
-        return Err(Refusal {
-            question: Question(1),
-            at: 0,
-        });
+        return Err(Question(1).at(0));
     }
     let words = s.len() / 2 + 16;
     if index.len() < words {
-        return Err(Refusal {
-            question: Question(2),
-            at: 0,
-        });
+        return Err(Question(2).at(0));
     }
-    let sections = read_sections(s, &mut index[..words]);
-    let Ok(e) = sections else {
-        return sections;
-    };
-    if e == s.len() {
-        Ok(e)
+    let end = read_sections(s, &mut index[..words])?;
+    if end == s.len() {
+        Ok(end)
     } else {
-        Err(Refusal {
-            question: Question(10),
-            at: e,
-        })
+        Err(Question(10).at(end))
     }
 }

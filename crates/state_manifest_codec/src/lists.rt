@@ -1,4 +1,6 @@
 // Lists inside entries: a count, then the entries.
+#![tactic(auto, using(crate::proofs::Reading::reads))]
+
 ghost use Rattle.std.specs.Prelude.{◌≡◌, true, option_map};
 ghost use Rattle.state.specs.Outcome.{field_of};
 ghost use Rattle.state_wire.specs.Fields.{read_count, max_snapshot_bytes};
@@ -10,18 +12,15 @@ ghost use Rattle.state_manifest_codec.specs.Readers.{ReadsAs};
 
 use crate::layouts::Asked;
 use crate::values::read_value;
-use state::{Field, Question, Refusal, Step};
+use state::{Field, Question, Step};
 use state_key_order::{precedes, read_connector_key};
-use state_wire::{bounded_count, part, read_number, step_of, string};
+use state_wire::{bounded_count, part, read_number, string};
 
 // A count whose entries have at least so many bytes each.
 pub fn read_count(s: &[u8], at: usize, least: u64) -> Field
     ensures { result ≡ field_of (read_count 4 least s.now at) }
 {
-    let count = read_number::<4>(s, at);
-    let Ok((n, next)) = count else {
-        return count;
-    };
+    let (n, next) = read_number::<4>(s, at)?;
     bounded_count(s, next, n, least)
 }
 
@@ -32,12 +31,12 @@ pub fn key_above(last: Option<&[u8]>, key: &[u8]) -> bool
     last.is_none_or(|before| precedes(before, key))
 }
 
-// The same where it is asked `now`; elsewhere the answer is yes.
-pub(crate) fn in_order(asked: Asked, now: Asked, last: Option<&[u8]>, key: &[u8]) -> bool
-    ensures asked { asked ≡ now → result ≡ above key.now (prior (option_map (λ k. k.now) last.entry)) }
-    ensures unasked { ¬ (asked ≡ now) → result ≡ true }
+// The same of a list where it may not be asked; then the answer is yes.
+pub(crate) fn in_order(asked: Asked, last: Option<&[u8]>, key: &[u8]) -> bool
+    ensures asked { ¬ (asked ≡ Asked.Never) → result ≡ above key.now (prior (option_map (λ k. k.now) last.entry)) }
+    ensures unasked { asked ≡ Asked.Never → result ≡ true }
 {
-    asked != now || key_above(last, key)
+    asked == Asked::Never || key_above(last, key)
 }
 
 // A list of entries whose keys ascend, by their bytes from `skip` on.
@@ -57,29 +56,17 @@ pub fn read_ascending<K: Fn(&[u8], usize) -> Step, R: Fn(&[u8], usize) -> Step>(
     requires rest { ReadsAs (R.post read_rest s) e.rest s.now }
     ensures { result ≡ scan max_snapshot_bytes (counted e) s.now at }
 {
-    let count = read_count(s, at, least);
-    let Ok((n, first)) = count else {
-        return step_of(count);
-    };
+    let (n, first) = read_count(s, at, least)?;
     let mut last = None;
     let mut p = first;
     for _ in 0..n {
-        let key = read_key(s, p);
-        let Ok(k) = key else {
-            return key;
-        };
-        let rest = read_rest(s, k);
-        let Ok(e) = rest else {
-            return rest;
-        };
-        let ranked = part(s, p + skip, k);
-        if !key_above(last, ranked) {
-            return Err(Refusal {
-                question: Question(9),
-                at: e,
-            });
+        let k = read_key(s, p)?;
+        let e = read_rest(s, k)?;
+        let key = part(s, p + skip, k);
+        if !key_above(last, key) {
+            return Err(Question(9).at(e));
         }
-        last = Some(ranked);
+        last = Some(key);
         p = e;
     }
     Ok(p)
@@ -94,20 +81,10 @@ pub fn read_parameters(s: &[u8], at: usize) -> Step
 }
 
 // A block's inputs or outputs. Their order is free and nothing follows a key, so they are not read by `read_ascending`.
+#[tactic(auto, using(crate::proofs::Reading::reads), unfolding(format::specs::Manifest::connector_keys))]
 pub fn read_connector_keys(s: &[u8], at: usize) -> Step
     ensures { result ≡ scan max_snapshot_bytes connector_keys s.now at }
 {
-    let count = read_count(s, at, 10);
-    let Ok((n, first)) = count else {
-        return step_of(count);
-    };
-    let mut p = first;
-    for _ in 0..n {
-        let key = read_connector_key(s, p);
-        let Ok(e) = key else {
-            return key;
-        };
-        p = e;
-    }
-    Ok(p)
+    let (n, first) = read_count(s, at, 10)?;
+    (0..n).try_fold(first, |p, _| read_connector_key(s, p))
 }

@@ -1,4 +1,6 @@
 // Values, their types, and what may be left out.
+#![tactic(auto, using(crate::proofs::Reading::reads), unfolding(format::specs::Manifest::value_type, format::specs::Manifest::value, format::specs::Manifest::portability))]
+
 ghost use Rattle.std.specs.Prelude.{◌≡◌};
 ghost use Rattle.state_wire.specs.Fields.{max_snapshot_bytes};
 ghost use Rattle.format.specs.Format.{Fmt, scan, text, number, ◌then◌};
@@ -6,17 +8,13 @@ ghost use Rattle.format.specs.Manifest.{value, value_type, optional, portability
 ghost use Rattle.state_manifest_codec.specs.Readers.{ReadsAs};
 
 use state::{Portability, Step, WireValueType};
-use state_wire::{read_tag, step_of, string, take};
+use state_wire::{read_tag, string, take};
 
 pub fn read_value_type(s: &[u8], at: usize) -> Step
     ensures { result ≡ scan max_snapshot_bytes value_type s.now at }
 {
-    let tag = read_tag(s, at, WireValueType::KNOWN);
-    let Ok((t, next)) = tag else {
-        return step_of(tag);
-    };
-    let of_class = t == WireValueType::ENUM;
-    if of_class {
+    let (tag, next) = read_tag(s, at, WireValueType::KNOWN)?;
+    if tag == WireValueType::ENUM {
         return string(s, next);
     }
     Ok(next)
@@ -26,23 +24,17 @@ pub fn read_value_type(s: &[u8], at: usize) -> Step
 fn read_ordinal(s: &[u8], at: usize) -> Step
     ensures { result ≡ scan max_snapshot_bytes (text then number 4) s.now at }
 {
-    let class = string(s, at);
-    let Ok(ordinal) = class else {
-        return class;
-    };
+    let ordinal = string(s, at)?;
     take(s, ordinal, 4)
 }
 
 pub fn read_value(s: &[u8], at: usize) -> Step
     ensures { result ≡ scan max_snapshot_bytes value s.now at }
 {
-    let tag = read_tag(s, at, WireValueType::KNOWN);
-    let Ok((t, next)) = tag else {
-        return step_of(tag);
-    };
-    match t {
+    let (tag, next) = read_tag(s, at, WireValueType::KNOWN)?;
+    match tag {
         WireValueType::REAL | WireValueType::INTEGER => take(s, next, 8),
-        WireValueType::BOOLEAN => step_of(read_tag(s, next, 2)),
+        WireValueType::BOOLEAN => read_tag(s, next, 2).map(|(_, end)| end),
         WireValueType::STRING => string(s, next),
         _ => read_ordinal(s, next),
     }
@@ -55,10 +47,7 @@ fn read_optional<F: Fn(&[u8], usize) -> Step>(s: &[u8], at: usize, read: F) -> S
     requires reads { ReadsAs (F.post read s) fmt s.now }
     ensures { result ≡ scan max_snapshot_bytes (optional fmt) s.now at }
 {
-    let tag = read_tag(s, at, 2);
-    let Ok((there, next)) = tag else {
-        return step_of(tag);
-    };
+    let (there, next) = read_tag(s, at, 2)?;
     if there == 0 {
         return Ok(next);
     }
@@ -84,16 +73,10 @@ pub fn read_bound(s: &[u8], at: usize) -> Step
 pub fn read_portability(s: &[u8], at: usize) -> Step
     ensures { result ≡ scan max_snapshot_bytes portability s.now at }
 {
-    let tag = read_tag(s, at, Portability::KNOWN);
-    let Ok((t, next)) = tag else {
-        return step_of(tag);
-    };
-    if t == Portability::PORTABLE {
+    let (tag, next) = read_tag(s, at, Portability::KNOWN)?;
+    if tag == Portability::PORTABLE {
         return Ok(next);
     }
-    let arch = string(s, next);
-    let Ok(os) = arch else {
-        return arch;
-    };
+    let os = string(s, next)?;
     string(s, os)
 }

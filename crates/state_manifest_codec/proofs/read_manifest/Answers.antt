@@ -1,25 +1,19 @@
-use mathlib.Core.Path.{sym}
 use native.Mathlib.Omega.{arith}
-use Rattle.state_manifest_codec.proofs.Whole.{too_long, too_few, words-lent, sections-room, sections-stop, all_read, left_over}
+use Rattle.state_manifest_codec.proofs.Reading.{passed_on}
+use Rattle.state_manifest_codec.proofs.Whole.{too_long, too_few, sections-stop, all_read, left_over}
 use Rattle.state_manifest_codec.proofs.read_manifest.Goals as goal
 
 pub returns-then-s-gt-MAX_SNAPSHOT_BYTES : goal.returns-then-s-gt-MAX_SNAPSHOT_BYTES
-returns-then-s-gt-MAX_SNAPSHOT_BYTES c = too_long _ _ c.if-s-gt-MAX_SNAPSHOT_BYTES.true
+returns-then-s-gt-MAX_SNAPSHOT_BYTES c = rw c.at.ensures (too_long _ _ c.if-s-gt-MAX_SNAPSHOT_BYTES.true)
 
 pub returns-then-index-words : goal.returns-then-index-words
-returns-then-index-words c = too_few _ _ c.if-s-gt-MAX_SNAPSHOT_BYTES.false c.if-index-words.true
+returns-then-index-words c = rw c.at-then-index-words.ensures (too_few _ _ c.if-s-gt-MAX_SNAPSHOT_BYTES.false c.if-index-words.true)
 
-pub slice_bounds-read_sections-end-2 : goal.slice_bounds-read_sections-end-2
-slice_bounds-read_sections-end-2 c = sym (words-lent c.args.s.now c.args.index.now c.if-s-gt-MAX_SNAPSHOT_BYTES.false c.if-index-words.false)
+pub returns-in_err-end : goal.returns-in_err-end
+returns-in_err-end c = rw (passed_on c.from_residual.ensures.1, ← c.in_err-end.was) (sections-stop _ _ c.if-s-gt-MAX_SNAPSHOT_BYTES.false c.if-index-words.false c.read_sections.ensures c.in_err-end.was)
 
-pub read_sections-sections-requires : goal.read_sections-sections-requires
-read_sections-sections-requires c = sections-room _ _ c.if-s-gt-MAX_SNAPSHOT_BYTES.false c.if-index-words.false
+pub returns-then-end-s : goal.returns-then-end-s
+returns-then-end-s c = all_read _ _ c.if-s-gt-MAX_SNAPSHOT_BYTES.false c.if-index-words.false c.read_sections.ensures c.in_ok-end.was (omega arith)
 
-pub returns-in_default : goal.returns-in_default
-returns-in_default c = sections-stop _ _ c.if-s-gt-MAX_SNAPSHOT_BYTES.false c.if-index-words.false c.read_sections-sections.ensures c.in_default.is
-
-pub returns-then-e-s : goal.returns-then-e-s
-returns-then-e-s c = all_read _ _ c.if-s-gt-MAX_SNAPSHOT_BYTES.false c.if-index-words.false c.read_sections-sections.ensures c.in-Ok.is (omega arith)
-
-pub returns-else-e-s : goal.returns-else-e-s
-returns-else-e-s c = left_over _ _ c.if-s-gt-MAX_SNAPSHOT_BYTES.false c.if-index-words.false c.read_sections-sections.ensures c.in-Ok.is (λ h. omega arith)
+pub returns-else-end-s : goal.returns-else-end-s
+returns-else-end-s c = rw c.at-else-end-s.ensures (left_over _ _ c.if-s-gt-MAX_SNAPSHOT_BYTES.false c.if-index-words.false c.read_sections.ensures c.in_ok-end.was (λ h. omega arith))

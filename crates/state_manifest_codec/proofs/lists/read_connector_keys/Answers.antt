@@ -1,25 +1,20 @@
-use Prim.Native.Nat.{◌<◌, ◌≤◌, ◌-◌}
 use native.Mathlib.Omega.{arith}
-use Rattle.format.proofs.Entries.{goings, going_start, going-free}
+use Rattle.std.proofs.Common.{rules}
+use Rattle.std.specs.Result.{result_from_control_flow, IsErr, IsErrAnd}
+use mathlib.Core.Path.{◌≡◌, refl}
 use Rattle.format.specs.Format.{free, done}
 use Rattle.format.specs.Keys.{connector_key}
 use Rattle.format.specs.Manifest.{connector_keys}
+use Rattle.format.proofs.Entries.{going_start}
+use Rattle.state_wire.specs.Fields.{max_snapshot_bytes}
 use Rattle.state_manifest_codec.proofs.Filling.{going-left}
+use Rattle.state_manifest_codec.proofs.Keys.{keys-read}
+use Rattle.state_manifest_codec.proofs.Reading.{passed_on}
 use Rattle.state_manifest_codec.proofs.lists.read_connector_keys.Goals as goal
 
-pub returns-in_default : goal.returns-in_default
-unfolding connector_keys
-returns-in_default c = search goings
-
-pub loop-init : goal.loop-init
-unfolding connector_keys
-loop-init c = going-left (going_start _ _ _ 4 10 free connector_key done c.read_count-count.ensures c.in-Ok.is) (omega arith)
-
-pub returns-in_default-key : goal.returns-in_default-key
-returns-in_default-key c = let h : 0 < c.in-Ok.n - c.loop.counter = omega arith in search goings
-
-pub loop-preserved : goal.loop-preserved
-loop-preserved c = let h : 0 < c.in-Ok.n - c.loop.counter = omega arith in going-left (going-free c.loop.invariant h c.read_connector_key-key.ensures c.in-Ok-key.is) (omega arith)
-
 pub returns : goal.returns
-returns c = let h : c.in-Ok.n - c.loop.counter ≤ 0 = omega arith in search goings
+unfolding connector_keys
+returns c =
+    let t = c.try_fold.ensures.ran in
+    keys-read _ (λ v b. v ≡ result_from_control_flow b) (λ e r. IsErr r × IsErrAnd r (λ d. d ≡ e.0)) max_snapshot_bytes connector_key c.args.s.now (record { 0 = c.args.s }) (λ f f' p x v h l. search rules) (λ v n b. b) (λ v r e b q. (e.0, b, passed_on q.1))
+    t.0 _ t.4.0 c.try_fold.new.self _ t.2 _ t.3 _ t.1 refl (going-left (going_start _ _ _ 4 10 free connector_key done c.read_count.ensures c.in_ok-n.was) (omega arith)) t.4.1 t.4.2 t.5 t.6

@@ -1,64 +1,42 @@
 use native.Mathlib.Omega.{arith}
-use mathlib.Core.Path.{refl, ◌∙◌}
+use mathlib.Core.Path.{◌≡◌, refl, sym, ap, ◌∙◌}
+use mathlib.Core.Bool.{true}
+use Rattle.std.specs.Prelude.{Err}
 use Rattle.state_wire.specs.Fields.{max_snapshot_bytes}
-use Rattle.format.specs.Manifest.{numbered}
-use Rattle.state_manifest_codec.proofs.Laid.{skip-small}
-use Rattle.state_manifest_codec.proofs.Walking.{walk-stop, walk_start, walk_end, walk-key-stop, walk-room, walk-key-low, walk-rest-stop, walk-low, walk-word, walk-on}
+use Rattle.state_manifest_codec.specs.declared.layouts.Asked.TheVariants.{AfterKey}
+use Rattle.state_manifest_codec.proofs.Filling.{lists-stop}
+use Rattle.state_manifest_codec.proofs.Laid.{asked_on, asked_off}
+use Rattle.state_manifest_codec.proofs.Reading.{passed_on}
+use Rattle.state_manifest_codec.proofs.Walking.{walk-stop, walk_start, walk_end, walk-key-stop, walk-space, walk-key-low, walk-rest-stop, walk-low, walk-word, walk-on}
+use Rattle.state_manifest_codec.proofs.tables.read_list.Goals.{else-not-ordered-via-then-not-ordered+else-eq, else-not-ordered-via-else-not-ordered}
 use Rattle.state_manifest_codec.proofs.tables.read_list.Goals as goal
 
-pub returns-in_default : goal.returns-in_default
-returns-in_default c = walk-stop max_snapshot_bytes _ _ _ c.layout_of-layout.ensures c.read_count-count.ensures c.in_default.is c.step_of.ensures
+pub returns-in_err-n : goal.returns-in_err-n
+returns-in_err-n c = walk-stop max_snapshot_bytes _ _ _ c.layout_of-layout.ensures c.read_count.ensures c.in_err-n.was (passed_on c.from_residual.ensures.1)
 
-pub loop-init : goal.loop-init
-loop-init c = walk_start max_snapshot_bytes _ _ _ c.layout_of-layout.ensures c.read_count-count.ensures c.requires c.in-Ok.is (omega arith)
+pub loop-w-init : goal.loop-w-init
+loop-w-init c = walk_start max_snapshot_bytes _ _ _ c.layout_of-layout.ensures c.read_count.ensures c.in_ok-n.was (omega arith)
 
-pub shape_of-index-in_default-key : goal.shape_of-index-in_default-key
-shape_of-index-in_default-key c = c.loop.invariant.filling.long
+pub returns-in_err-k : goal.returns-in_err-k
+returns-in_err-k c = let e = passed_on c.from_residual-in_err-k.ensures.1 in lists-stop (e ∙ sym c.in_err-k.was ∙ walk-key-stop c.loop-w.invariant (omega arith) c.read_key.ensures c.in_err-k.was) e
 
-pub returns-in_default-key : goal.returns-in_default-key
-returns-in_default-key c = walk-key-stop c.loop.invariant (omega arith) c.read_key-key.ensures c.in_default-key.is
+pub returns-then-eq : goal.returns-then-eq
+returns-then-eq c = lists-stop (ap Err c.at.ensures ∙ walk-key-low c.loop-w.invariant (omega arith) c.read_key.ensures c.in_ok-k.was (λ q. c.in_order-ordered.ensures.asked q ∙ rw c.part-key.ensures) c.in_order-ordered.ensures.unasked c.if-not-ordered.true (asked_on _ (sym c.eq.ensures ∙ c.if-eq.true))) refl
 
-pub overflow_add-p : goal.overflow_add-p
-overflow_add-p c = omega (arith, skip-small (numbered c.args.section) c.layout_of-layout.ensures)
+pub read_rest-requires : goal.read_rest-requires
+read_rest-requires c = walk-space c.loop-w.invariant (omega arith) c.read_key.ensures c.in_ok-k.was c.requires c.loop-w.auto.index
 
-pub shape_of-index-then-not-in_order : goal.shape_of-index-then-not-in_order
-shape_of-index-then-not-in_order c = c.loop.invariant.filling.long
+pub returns-in_err-e : goal.returns-in_err-e
+returns-in_err-e c = let e = passed_on c.from_residual-in_err-e.ensures.1 in lists-stop (e ∙ sym c.in_err-e.was ∙ walk-rest-stop c.loop-w.invariant (omega arith) c.read_key.ensures c.in_ok-k.was (λ q. c.in_order-ordered.ensures.asked q ∙ rw c.part-key.ensures) c.in_order-ordered.ensures.unasked
+    (let tb : c.layout_of-layout.result.asked ≡ AfterKey → c.in_order-ordered.result ≡ true = λ q. elim c.else-not-ordered.branch [ else-not-ordered-via-then-not-ordered+else-eq w ↦ absurd (asked_off _ (sym w.eq.ensures ∙ w.if-eq.false) q) | else-not-ordered-via-else-not-ordered w ↦ w.if-not-ordered.false ] in tb) c.read_rest.ensures c.in_err-e.was) e
 
-pub returns-then-not-in_order : goal.returns-then-not-in_order
-returns-then-not-in_order c = walk-key-low c.loop.invariant (omega arith) c.read_key-key.ensures c.in-Ok-key.is (λ q. c.in_order.ensures.asked q ∙ rw c.part-ranked.ensures) c.in_order.ensures.unasked c.if-not-in_order.true
+pub returns-then-not-ordered-2 : goal.returns-then-not-ordered-2
+returns-then-not-ordered-2 c = lists-stop (ap Err c.at-then-not-ordered-2.ensures ∙ walk-low c.loop-w.invariant (omega arith) c.read_key.ensures c.in_ok-k.was (λ q. c.in_order-ordered.ensures.asked q ∙ rw c.part-key.ensures) c.in_order-ordered.ensures.unasked
+    (let tb : c.layout_of-layout.result.asked ≡ AfterKey → c.in_order-ordered.result ≡ true = λ q. elim c.else-not-ordered.branch [ else-not-ordered-via-then-not-ordered+else-eq w ↦ absurd (asked_off _ (sym w.eq.ensures ∙ w.if-eq.false) q) | else-not-ordered-via-else-not-ordered w ↦ w.if-not-ordered.false ] in tb) c.read_rest.ensures c.in_ok-e.was c.if-not-ordered-2.true) refl
 
-pub read_rest-rest-requires : goal.read_rest-rest-requires
-read_rest-rest-requires c = walk-room c.loop.invariant (omega arith) c.read_key-key.ensures c.in-Ok-key.is c.requires
-
-pub shape_of-index-in_default-rest : goal.shape_of-index-in_default-rest
-shape_of-index-in_default-rest c = c.read_rest-rest.ensures.long ∙ c.loop.invariant.filling.long
-
-pub returns-in_default-rest : goal.returns-in_default-rest
-returns-in_default-rest c = walk-rest-stop c.loop.invariant (omega arith) c.read_key-key.ensures c.in-Ok-key.is (λ q. c.in_order.ensures.asked q ∙ rw c.part-ranked.ensures) c.in_order.ensures.unasked c.if-not-in_order.false c.read_rest-rest.ensures c.in_default-rest.is
-
-pub shape_of-index-then-not-in_order-2 : goal.shape_of-index-then-not-in_order-2
-shape_of-index-then-not-in_order-2 c = c.read_rest-rest.ensures.long ∙ c.loop.invariant.filling.long
-
-pub returns-then-not-in_order-2 : goal.returns-then-not-in_order-2
-returns-then-not-in_order-2 c = walk-low c.loop.invariant (omega arith) c.read_key-key.ensures c.in-Ok-key.is (λ q. c.in_order.ensures.asked q ∙ rw c.part-ranked.ensures) c.in_order.ensures.unasked c.if-not-in_order.false c.read_rest-rest.ensures c.in-Ok-rest.is (λ q. c.in_order-in-loop.ensures.asked q ∙ rw c.part-ranked.ensures) c.in_order-in-loop.ensures.unasked c.if-not-in_order-2.true
-
-pub overflow_cast-index : goal.overflow_cast-index
-overflow_cast-index c = omega (arith, c.loop.invariant.going.here, c.requires.short)
-
-pub offset_bounds-index-w : goal.offset_bounds-index-w
-offset_bounds-index-w c = omega (arith, walk-word c.loop.invariant (omega arith) c.read_key-key.ensures c.in-Ok-key.is (λ q. c.in_order.ensures.asked q ∙ rw c.part-ranked.ensures) c.in_order.ensures.unasked c.if-not-in_order.false c.read_rest-rest.ensures c.in-Ok-rest.is (λ q. c.in_order-in-loop.ensures.asked q ∙ rw c.part-ranked.ensures) c.in_order-in-loop.ensures.unasked c.requires)
-
-pub bounds-index-w : goal.bounds-index-w
-bounds-index-w c = walk-word c.loop.invariant (omega arith) c.read_key-key.ensures c.in-Ok-key.is (λ q. c.in_order.ensures.asked q ∙ rw c.part-ranked.ensures) c.in_order.ensures.unasked c.if-not-in_order.false c.read_rest-rest.ensures c.in-Ok-rest.is (λ q. c.in_order-in-loop.ensures.asked q ∙ rw c.part-ranked.ensures) c.in_order-in-loop.ensures.unasked c.requires
-
-pub overflow_add-w : goal.overflow_add-w
-overflow_add-w c = omega (arith, c.loop.invariant.filling.used, c.loop.invariant.going.here, c.requires.short)
-
-pub loop-preserved : goal.loop-preserved
-loop-preserved c = walk-on c.loop.invariant (omega arith) c.read_key-key.ensures c.in-Ok-key.is (λ q. c.in_order.ensures.asked q ∙ rw c.part-ranked.ensures) c.in_order.ensures.unasked c.if-not-in_order.false c.read_rest-rest.ensures c.in-Ok-rest.is (λ q. c.in_order-in-loop.ensures.asked q ∙ rw c.part-ranked.ensures) c.in_order-in-loop.ensures.unasked c.requires c.if-not-in_order-2.false c.part-ranked.ensures refl (omega arith)
-
-pub shape_of-index : goal.shape_of-index
-shape_of-index c = c.loop.invariant.filling.long
+pub loop-w-preserved : goal.loop-w-preserved
+loop-w-preserved c = walk-on c.loop-w.invariant (omega arith) c.read_key.ensures c.in_ok-k.was (λ q. c.in_order-ordered.ensures.asked q ∙ rw c.part-key.ensures) c.in_order-ordered.ensures.unasked
+    (let tb : c.layout_of-layout.result.asked ≡ AfterKey → c.in_order-ordered.result ≡ true = λ q. elim c.else-not-ordered.branch [ else-not-ordered-via-then-not-ordered+else-eq w ↦ absurd (asked_off _ (sym w.eq.ensures ∙ w.if-eq.false) q) | else-not-ordered-via-else-not-ordered w ↦ w.if-not-ordered.false ] in tb) c.read_rest.ensures c.in_ok-e.was c.if-not-ordered-2.false (walk-word c.loop-w.invariant (omega arith) c.read_key.ensures c.in_ok-k.was c.requires c.loop-w.auto.index) _ c.read_rest.auto.scratch c.part-key.ensures refl (omega arith)
 
 pub returns : goal.returns
-returns c = walk_end c.loop.invariant (omega arith)
+returns c = walk_end c.loop-w.invariant (omega arith)

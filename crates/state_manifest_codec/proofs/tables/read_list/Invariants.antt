@@ -4,5 +4,5 @@ use Rattle.state_wire.specs.Fields.{max_snapshot_bytes}
 use Rattle.state_manifest_codec.proofs.Walking.{Walking}
 use Rattle.state_manifest_codec.proofs.tables.read_list.Given as goal
 
-abbrev pub invariant-loop : goal.invariant-loop
-invariant-loop l = Walking max_snapshot_bytes l.section l.layout l.s l.at l.word l.initial.index (l.n - l.counter) l.p (option_map (λ k. k.now) l.last) l.w l.index
+abbrev pub invariant-loop-w : goal.invariant-loop-w
+invariant-loop-w l = Walking max_snapshot_bytes l.section l.layout l.s l.at (l.n - l.w) l.p (option_map (λ k. k.now) l.last) l.w l.index
