@@ -12,6 +12,8 @@
 // Each index is filled before a call. The answer ends with `index` where the call has left another one than it must.
 #![tactic(auto)]
 
+ghost use Rattle.std.specs.Prelude.{◌≤◌};
+
 use replay_lines::{bytes, number, words};
 use state::{Decoded, Question, SideRefusal, Verdict};
 use std::io;
@@ -61,10 +63,13 @@ struct Call<'a> {
 fn call_at<'a>(line: &[u8], first: usize, room: &'a mut Room) -> Option<Call<'a>>
     requires { first ≤ 4 }
 {
-    let index = room.index.get_mut(..number::<usize>(line, first + 2))?;
+    let index = room
+        .index
+        .as_mut_slice()
+        .get_mut(..number::<usize>(line, first + 2))?;
     index.fill(FILL);
     Some(Call {
-        bytes: bytes(line, first + 3, &mut room.bytes),
+        bytes: bytes(line, first + 3, room.bytes.as_mut_slice()),
         base: number(line, first),
         revision: number(line, first + 1),
         index,
@@ -160,33 +165,31 @@ fn print_verdict(
 }
 
 fn decode(rt: &impl Print, call: Call) -> io::Result<()> {
-    let decoded = manifest::decode_manifest(call.bytes, call.base, call.revision, call.index);
-    print_decoded(rt, decoded, call.index)
+    let index = call.index;
+    let decoded = manifest::decode_manifest(call.bytes, call.base, call.revision, index);
+    print_decoded(rt, decoded, index)
 }
 
 fn decode_tail(rt: &impl Print, call: Call, tail: &[u8]) -> io::Result<()> {
-    let decoded = state_codec::decode_snapshot(
-        call.bytes,
-        tail,
-        call.base,
-        call.revision,
-        call.index,
-    );
-    print_decoded(rt, decoded, call.index)
+    let index = call.index;
+    let decoded = state_codec::decode_snapshot(call.bytes, tail, call.base, call.revision, index);
+    print_decoded(rt, decoded, index)
 }
 
 fn compare(rt: &impl Print, snapshot: Call, target: Call) -> io::Result<()> {
+    let index = snapshot.index;
+    let index2 = target.index;
     let verdict = state_manifest::compare_manifests(
         snapshot.bytes,
         snapshot.base,
         snapshot.revision,
-        snapshot.index,
+        index,
         target.bytes,
         target.base,
         target.revision,
-        target.index,
+        index2,
     );
-    print_verdict(rt, verdict, snapshot.index, target.index)
+    print_verdict(rt, verdict, index, index2)
 }
 
 // The answer to a line of four, five or eight words. There is none where it asks for a longer index than there is.
