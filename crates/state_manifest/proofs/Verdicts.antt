@@ -13,7 +13,7 @@ use Rattle.state.specs.Bytes.{span}
 use Rattle.std.specs.Prelude.{Ok, Err}
 use Rattle.format.specs.Lists.{same}
 use Rattle.format.specs.Least.{honest}
-use Rattle.format.specs.Manifest.{counted, sequence, blocks, input_definitions, manifest}
+use Rattle.format.specs.Manifest.{sequence, input_definitions, manifest}
 use Rattle.format.specs.Places.{section_starts, manifest_starts, past}
 use Rattle.format.specs.Values.{value_at, Well}
 use Rattle.format.proofs.Lists.{same_true, same_differs}
@@ -21,7 +21,7 @@ use Rattle.format.proofs.Complete.{same_bytes}
 use Rattle.format.proofs.Canonical.{manifest-honest}
 use Rattle.format.proofs.Places.{end-got}
 use Rattle.format.proofs.Values.{well-then, written}
-use Rattle.verdict.specs.Verdict.{Agreement, compatible, differs, ◌or_else◌, block_verdict, Comparison, whole, listwise, entrywise, comparisons, formats, over, verdict}
+use Rattle.verdict.specs.Verdict.{Agreement, compatible, differs, ◌or_else◌, Comparison, whole, entrywise, comparisons, formats, over, verdict}
 use Rattle.verdict.proofs.Faithful.{Faithful, AllFaithful, comparisons-faithful}
 use Rattle.state_layout.specs.Tables.{manifest_of}
 use Rattle.state_layout.proofs.Tables.{limit}

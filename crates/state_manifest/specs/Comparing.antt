@@ -1,12 +1,12 @@
 -- Two manifests side by side: only contracts of private functions cite it.
-use Rattle.std.specs.Prelude.{Err, ℕ, ◌+◌, ◌-◌, ◌≡◌, cond, List, length, get_or, eqb}
+use Rattle.std.specs.Prelude.{Err, ℕ, ◌+◌, ◌-◌, ◌≡◌, List, length, get_or}
 use Rattle.state.specs.Bytes.{AreBytes}
 use Rattle.state.specs.declared.Difference.{Difference}
 use Rattle.state_manifest.specs.declared.compare.Sides.{Sides}
 use Rattle.state_wire.specs.Fields.{max_snapshot_bytes}
 use Rattle.format.specs.Format.{Fmt, El, free, done}
 use Rattle.format.specs.Keys.{connector_key}
-use Rattle.format.specs.Manifest.{connector_keys, Section, section, entry, counted, enums, connectors, input_definitions, manifest}
+use Rattle.format.specs.Manifest.{connector_keys, Section, section, entry, counted, input_definitions, manifest}
 use Rattle.format.specs.Places.{manifest_starts, past}
 use Rattle.format.specs.Values.{value_at, Well}
 use Rattle.verdict.specs.Verdict.{Agreement, ◌or_else◌, field, along, ports_verdict, Comparison, entrywise, comparisons}
