@@ -3,12 +3,12 @@ use Prim.Native.Nat.{ℕ, zero, suc, ◌+◌, ◌-◌, ◌≤◌, ◌<◌, min}
 use native.Mathlib.Omega.{arith}
 use native.Mathlib.Nat.{min-eq_left, sub-zero}
 use mathlib.Core.Path.{◌≡◌, refl, sym, ap, ◌∙◌}
-use mathlib.Core.Bool.{Bool, true, false, cond, true≢false}
+use mathlib.Core.Bool.{Bool, true, false, cond}
 use mathlib.Core.List.{List}
 use lib.ListN.{length}
 use lib.Dec.{eqb}
 use borrow.Author.Tests.{eq-eqb, ne_eqb, eqb-true}
-use Rattle.std.specs.Prelude.{Err, is_err}
+use Rattle.std.specs.Prelude.{Err}
 use Rattle.state.specs.Bytes.{AreBytes, span}
 use Rattle.state.specs.declared.Difference.{Difference}
 use Rattle.state_wire.specs.Fields.{max_snapshot_bytes}
@@ -27,10 +27,6 @@ or-next {e = e} i o j = j ∙ ap (λ l. l or_else e) (sym o ∙ i)
 
 pub or-found : {x d : Agreement} {f : Difference} (e : Agreement) → x ≡ d → x ≡ Err f → Err f ≡ d or_else e
 or-found e i o = ap (λ l. l or_else e) (sym o ∙ i)
-
--- a verdict that is a difference is not `compatible`
-pub not-compatible : (v : Agreement) → is_err v ≡ true → v ≡ compatible → ⊥
-not-compatible v d e = true≢false (sym d ∙ ap (λ a. is_err a) e)
 
 -- ---- two values
 module _ {s t : List ℕ} where
