@@ -33,6 +33,7 @@ pub fn state_words(s: &[u8], at: usize) -> u64
     let mut p = ahead(s, at, 4);
     let mut most = 0u64;
     for _ in 0..count {
+        // Offset and length stand on the way to the next slot: a function for where a slot ends would look for them again.
         let offset = block_key_end(s, p);
         let length = ahead(s, offset, 8);
         most = most.max(number_at(s, offset) + number_at(s, length));
