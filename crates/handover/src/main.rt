@@ -23,12 +23,11 @@ fn main(rt: HostRuntime) -> io::Result<()> {
     let mut bytes = [0u8; MOST + 1];
     let mut index = [0u32; WORDS];
     let mut room = &mut bytes[..];
+    // std has no From between usize and u64; both are 64 bits wide here.
     let n = io::copy(&mut rt.reader().take(MOST as u64 + 1), &mut room)? as usize;
-    if MOST < n {
+    let manifest = part(&bytes, 0, n);
+    if MOST < manifest.len() {
         return println!(rt; "too long");
     }
-    print_units(
-        &rt,
-        state_manifest::units(part(&bytes, 0, n), 0, 2, &mut index),
-    )
+    print_units(&rt, state_manifest::units(manifest, 0, 2, &mut index))
 }

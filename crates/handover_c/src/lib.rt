@@ -1,7 +1,7 @@
-// The calls on manifests for programs in C and Rust: see include/handover.h.
+// The calls on manifests for programs in C and Rust. Results and words are numbers, as C has them: include/handover.h says what each stands for.
 #![tactic(auto)]
 
-ghost use Rattle.std.specs.Prelude.{◌≡◌, ◌∷◌, ◌++◌, length, replicate};
+ghost use Rattle.std.specs.Prelude.{◌≡◌, ◌≤◌, ◌-◌, ◌∷◌, ◌++◌, length, replicate};
 ghost use Rattle.questions.specs.Portability.{target_bound_classes};
 ghost use Rattle.questions.specs.Answers.{judge, decode_manifest, decoded_index};
 ghost use Rattle.questions.specs.Units.{units_answer, units_index};
@@ -11,30 +11,29 @@ ghost use Rattle.handover_c.specs.Codes.{decoded_code, decoded_words, units_code
 
 use state::{Decoded, Refusal, SideRefusal, Starts, Units, Verdict};
 
-// Four words of an answer; the others are 0.
-fn four_words(a: u64, b: u64, c: u64, d: u64) -> [u64; 16]
-    ensures { result ≡ a ∷ b ∷ c ∷ d ∷ replicate 12 0 }
+// The first words of an answer; the others are 0.
+fn words_from<const N: usize>(first: [u64; N]) -> [u64; 16]
+    requires { N ≤ 16 }
+    ensures { result ≡ first.entry ++ replicate (16 - N) 0 }
 {
-    [a, b, c, d, 0, 0, 0, 0, 0, 0, 0, 0, 0, 0, 0, 0]
+    let mut words = [0; 16];
+    words[..N].copy_from_slice(&first);
+    words
 }
 
 fn starts_words(starts: Starts) -> [u64; 16]
     ensures { result ≡ starts.at ++ replicate 4 0 }
 {
-    let mut words = [0; 16];
-    for i in 0..12 {
-        words[i] = u64::from(starts.at[i]);
-    }
-    words
+    words_from(starts.at.map(u64::from))
 }
 
-// A refusal's number, and its words: the offset, and which side it is of.
+// A refusal's number, and its words: the offset, and which side it is of. The C interface has 0 for the snapshot's, and where there is no side.
 fn refused(refusal: Refusal<u64>, side: u64) -> (u32, [u64; 16])
     ensures { (result.0 ≡ refusal.question.0) × (result.1 ≡ refusal.at ∷ side ∷ replicate 14 0) }
 {
     (
         u32::from(refusal.question.0),
-        four_words(refusal.at, side, 0, 0),
+        words_from([refusal.at, side]),
     )
 }
 
@@ -51,7 +50,7 @@ fn units_answer(units: Result<Units, Refusal<u64>>) -> (u32, [u64; 16])
     ensures { (result.0 ≡ units_code units) × (result.1 ≡ units_words units) }
 {
     match units {
-        Ok(Units { words, units }) => (0, four_words(words, units, 0, 0)),
+        Ok(Units { words, units }) => (0, words_from([words, units])),
         Err(refusal) => refused(refusal, 0),
     }
 }
@@ -60,15 +59,16 @@ fn verdict_answer(verdict: Result<Verdict, SideRefusal>) -> (u32, [u64; 16])
     ensures { (result.0 ≡ verdict_code verdict) × (result.1 ≡ verdict_words verdict) }
 {
     match verdict {
-        Ok(Ok(())) => (0, four_words(0, 0, 0, 0)),
+        Ok(Ok(())) => (0, [0; 16]),
+        // std has no From between usize and u64; both are 64 bits wide here.
         Ok(Err(d)) => (
             0,
-            four_words(
+            words_from([
                 u64::from(d.section),
                 u64::from(d.part),
                 d.entry as u64,
                 d.inner as u64,
-            ),
+            ]),
         ),
         Err(SideRefusal::Snapshot(refusal)) => refused(refusal, 0),
         Err(SideRefusal::Target(refusal)) => refused(refusal, 1),

@@ -14,7 +14,7 @@
 #![tactic(auto)]
 
 use order::Compared;
-use replay_lines::{after_word, bytes, number, position};
+use replay_lines::{bytes, number};
 use state::{Field, Refusal, Step};
 use state_key_order::{KeyRefusal, KeysCompared};
 use state_wire::part;
@@ -46,12 +46,13 @@ fn print_number<N: Display + Drop>(
 }
 
 fn print_compared(rt: &impl Print, compared: Compared) -> io::Result<()> {
+    let order = match compared.order {
+        Ordering::Less => "less",
+        Ordering::Equal => "equal",
+        Ordering::Greater => "greater",
+    };
     let agree = compared.agree;
-    match compared.order {
-        Ordering::Less => println!(rt; "less {agree}"),
-        Ordering::Equal => println!(rt; "equal {agree}"),
-        Ordering::Greater => println!(rt; "greater {agree}"),
-    }
+    println!(rt; "{order} {agree}")
 }
 
 fn print_keys(rt: &impl Print, keys: KeysCompared) -> io::Result<()> {
@@ -59,38 +60,6 @@ fn print_keys(rt: &impl Print, keys: KeysCompared) -> io::Result<()> {
         Ok(compared) => print_compared(rt, compared),
         Err(KeyRefusal::Left(refusal)) => println!(rt; "left refused {refusal}"),
         Err(KeyRefusal::Right(refusal)) => println!(rt; "right refused {refusal}"),
-    }
-}
-
-// A line, by the whole input and where the first word behind its letter stands. Its words count from 0.
-#[derive(Clone, Copy)]
-struct Line<'a> {
-    input: &'a [u8],
-    first: usize,
-}
-
-impl<'a> Line<'a> {
-    // Where a word stands.
-    fn word(&self, n: usize) -> usize {
-        let mut at = self.first;
-        for _ in 0..n {
-            at = after_word(self.input, at);
-        }
-        at
-    }
-
-    fn number(&self, n: usize) -> u64 {
-        number(self.input, self.word(n))
-    }
-
-    fn position(&self, n: usize) -> usize {
-        position(self.input, self.word(n))
-    }
-
-    // The bytes of a HEX, in the room that is lent for them.
-    fn hex<'b>(&self, n: usize, room: &'b mut [u8]) -> &'b [u8] {
-        let len = bytes(self.input, self.word(n), room);
-        part(room, 0, len)
     }
 }
 
@@ -104,29 +73,34 @@ fn print_hex(rt: &impl Print, s: &[u8]) -> io::Result<()> {
     println!(rt)
 }
 
-fn text_line(rt: &impl Print, line: Line, room: &mut [u8]) -> io::Result<()> {
-    let valid = text::valid_up_to(line.hex(0, room));
+fn text_line(rt: &impl Print, line: &[u8], room: &mut [u8]) -> io::Result<()> {
+    let valid = text::valid_up_to(bytes(line, 1, room));
     println!(rt; "{valid}")
 }
 
-fn string_line(rt: &impl Print, line: Line, room: &mut [u8]) -> io::Result<()> {
-    let limit = line.position(0);
-    let at = line.position(1);
-    print_step(rt, state_wire::string_bounded(line.hex(2, room), at, limit))
+fn string_line(rt: &impl Print, line: &[u8], room: &mut [u8]) -> io::Result<()> {
+    let s = bytes(line, 3, room);
+    print_step(
+        rt,
+        state_wire::string_bounded(s, number(line, 2), number(line, 1)),
+    )
 }
 
-fn string_text_line(rt: &impl Print, line: Line, room: &mut [u8]) -> io::Result<()> {
-    let limit = line.position(0);
-    let at = line.position(1);
-    print_hex(rt, state_wire::string_text(line.hex(2, room), at, limit))
+fn string_text_line(rt: &impl Print, line: &[u8], room: &mut [u8]) -> io::Result<()> {
+    let s = bytes(line, 3, room);
+    print_hex(
+        rt,
+        state_wire::string_text(s, number(line, 2), number(line, 1)),
+    )
 }
 
-fn offset_line(rt: &impl Print, line: Line) -> io::Result<()> {
-    let offset = state_wire::offset(line.number(0), line.position(1));
+fn offset_line(rt: &impl Print, line: &[u8]) -> io::Result<()> {
+    let offset = state_wire::offset(number(line, 1), number(line, 2));
     println!(rt; "{offset}")
 }
 
-fn read_number(s: &[u8], at: usize, width: u64) -> Field {
+// The width of a number is a constant of its reader: a line's is one of three.
+fn read_number(s: &[u8], at: usize, width: usize) -> Field {
     match width {
         1 => state_wire::read_number::<1>(s, at),
         4 => state_wire::read_number::<4>(s, at),
@@ -134,41 +108,53 @@ fn read_number(s: &[u8], at: usize, width: u64) -> Field {
     }
 }
 
-fn number_line(rt: &impl Print, line: Line, room: &mut [u8]) -> io::Result<()> {
-    let width = line.number(0);
-    let at = line.position(1);
-    print_number(rt, read_number(line.hex(2, room), at, width))
+fn number_line(rt: &impl Print, line: &[u8], room: &mut [u8]) -> io::Result<()> {
+    let s = bytes(line, 3, room);
+    print_number(rt, read_number(s, number(line, 2), number(line, 1)))
 }
 
-fn count_line(rt: &impl Print, line: Line, room: &mut [u8]) -> io::Result<()> {
-    let count = line.number(0);
-    let least = line.number(1);
-    let at = line.position(2);
+fn count_line(rt: &impl Print, line: &[u8], room: &mut [u8]) -> io::Result<()> {
+    let s = bytes(line, 4, room);
+    let (count, least) = (number(line, 1), number(line, 2));
     print_number(
         rt,
-        state_wire::bounded_count(line.hex(3, room), at, count, least),
+        state_wire::bounded_count(s, number(line, 3), count, least),
     )
 }
 
-fn tag_line(rt: &impl Print, line: Line, room: &mut [u8]) -> io::Result<()> {
-    let known = (line.number(0) % 256) as u8;
-    let at = line.position(1);
-    print_number(rt, state_wire::read_tag(line.hex(2, room), at, known))
+fn tag_line(rt: &impl Print, line: &[u8], room: &mut [u8]) -> io::Result<()> {
+    let s = bytes(line, 3, room);
+    print_number(
+        rt,
+        state_wire::read_tag(s, number(line, 2), number(line, 1)),
+    )
 }
 
-fn compare(rt: &impl Print, op: u8, a: &[u8], b: &[u8]) -> io::Result<()> {
+// What two HEX come to.
+fn compare(
+    rt: &impl Print,
+    op: u8,
+    line: &[u8],
+    room: &mut [u8],
+    other: &mut [u8],
+) -> io::Result<()> {
+    let left = bytes(line, 1, room);
+    let right = bytes(line, 2, other);
     match op {
-        b'o' => print_compared(rt, order::compare(a, b)),
-        b'b' => print_keys(rt, state_key_order::compare_block_keys(a, 0, b, 0)),
-        _ => print_keys(rt, state_key_order::compare_connector_keys(a, 0, b, 0)),
+        b'o' => print_compared(rt, order::compare(left, right)),
+        b'b' => print_keys(rt, state_key_order::compare_block_keys(left, 0, right, 0)),
+        _ => print_keys(
+            rt,
+            state_key_order::compare_connector_keys(left, 0, right, 0),
+        ),
     }
 }
 
-// The answer to a line, by its first letter.
+// The answer to a line, by its letter, which is word 0.
 fn answer(
     rt: &impl Print,
     op: u8,
-    line: Line,
+    line: &[u8],
     room: &mut [u8],
     other: &mut [u8],
 ) -> io::Result<()> {
@@ -180,18 +166,15 @@ fn answer(
         b'n' => number_line(rt, line, room),
         b'c' => count_line(rt, line, room),
         b'g' => tag_line(rt, line, room),
-        _ => compare(rt, op, line.hex(0, room), line.hex(1, other)),
+        _ => compare(rt, op, line, room, other),
     }
 }
 
 fn lines(rt: &impl Print, s: &[u8], room: &mut [u8], other: &mut [u8]) -> io::Result<()> {
-    let mut begins = true;
-    for (i, byte) in s.iter().enumerate() {
-        if begins {
-            let first = after_word(s, i);
-            answer(rt, *byte, Line { input: s, first }, room, other)?;
+    for line in s.split(|c| *c == b'\n') {
+        if let Some(op) = line.first() {
+            answer(rt, *op, line, room, other)?;
         }
-        begins = *byte == b'\n';
     }
     Ok(())
 }
@@ -199,6 +182,7 @@ fn lines(rt: &impl Print, s: &[u8], room: &mut [u8], other: &mut [u8]) -> io::Re
 fn main(rt: HostRuntime) -> io::Result<()> {
     let mut input = [0u8; INPUT];
     let mut unfilled = &mut input[..];
+    // std has no From between usize and u64; both are 64 bits wide here.
     let n = io::copy(&mut rt.reader().take(INPUT as u64), &mut unfilled)? as usize;
     let mut room = [0u8; SIZE];
     let mut other = [0u8; SIZE];

@@ -2,65 +2,45 @@
 
 #![tactic(auto)]
 
-// The position after the next space or line end.
-pub fn after_word(s: &[u8], at: usize) -> usize {
-    for i in at..s.len() {
-        if s[i] == b' ' || s[i] == b'\n' {
-            return i + 1;
-        }
+use std::str;
+use std::str::FromStr;
+
+fn is_space(c: &u8) -> bool {
+    *c == b' '
+}
+
+// How many words a line has.
+pub fn words(line: &[u8]) -> usize {
+    line.split(is_space).count()
+}
+
+// Word n, counted from 0, or no bytes where the line has fewer.
+fn word(line: &[u8], n: usize) -> &[u8] {
+    line.split(is_space).nth(n).unwrap_or(&[])
+}
+
+// The decimal number that word n is, or 0 where it is none.
+pub fn number<N: FromStr<Err: Drop> + Default>(line: &[u8], n: usize) -> N {
+    str::from_utf8(word(line, n))
+        .ok()
+        .and_then(|digits| digits.parse().ok())
+        .unwrap_or_default()
+}
+
+// The byte that two hexadecimal digits spell, or 0 where they are none.
+fn byte_of(digits: &[u8]) -> u8 {
+    str::from_utf8(digits)
+        .ok()
+        .and_then(|pair| u8::from_str_radix(pair, 16).ok())
+        .unwrap_or(0)
+}
+
+// The bytes that word n, a HEX, spells, as many as there is room for.
+pub fn bytes<'a>(line: &[u8], n: usize, room: &'a mut [u8]) -> &'a [u8] {
+    let hex = word(line, n);
+    let len = room.len().min(hex.len() / 2);
+    for (byte, digits) in room.iter_mut().zip(hex.chunks_exact(2)) {
+        *byte = byte_of(digits);
     }
-    s.len().max(at)
-}
-
-// What stands from a position on.
-fn rest(s: &[u8], at: usize) -> &[u8] {
-    s.get(at..).unwrap_or(&s[..0])
-}
-
-// Ten times v and a digit more, or v where that is too large.
-fn with_digit(v: u64, digit: u8) -> u64 {
-    v.checked_mul(10)
-        .and_then(|tens| tens.checked_add(u64::from(digit)))
-        .unwrap_or(v)
-}
-
-// What a digit of up to base 16 stands for.
-fn digit(c: u8) -> Option<u8> {
-    match c {
-        b'0'..=b'9' => Some(c - b'0'),
-        b'a'..=b'f' => Some(c - b'a' + 10),
-        _ => None,
-    }
-}
-
-// The decimal number at a position.
-pub fn number(s: &[u8], at: usize) -> u64 {
-    let mut v = 0;
-    for c in rest(s, at) {
-        if !c.is_ascii_digit() {
-            return v;
-        }
-        v = with_digit(v, *c - b'0');
-    }
-    v
-}
-
-pub fn position(s: &[u8], at: usize) -> usize {
-    number(s, at) as usize
-}
-
-// The bytes of a HEX, put at the start of `out`, and how many there are.
-pub fn bytes(s: &[u8], at: usize, out: &mut [u8]) -> usize {
-    // The place of the next byte: it moves on only where there is room.
-    let mut n = 0;
-    for pair in rest(s, at).chunks_exact(2) {
-        let Some(high) = digit(pair[0]) else {
-            return n;
-        };
-        if n < out.len() {
-            out[n] = high % 16 * 16 + digit(pair[1]).unwrap_or(0) % 16;
-            n += 1;
-        }
-    }
-    n
+    &room[..len]
 }

@@ -12,9 +12,10 @@
 // Each index is filled before a call. The answer ends with `index` where the call has left another one than it must.
 #![tactic(auto)]
 
-use replay_lines::{after_word, bytes, number, position};
-use state::{Decoded, Difference, Question, SideRefusal, Verdict};
-use state_wire::part;
+ghost use Rattle.std.specs.Prelude.{◌≤◌};
+
+use replay_lines::{bytes, number, words};
+use state::{Decoded, Question, SideRefusal, Verdict};
 use std::io;
 use std::io::BufRead;
 
@@ -30,19 +31,64 @@ const WORDS: usize = 512;
 // What stands in each word of the index before a call.
 const FILL: u32 = 0xa5a5a5a5;
 
+// The question whether the index is long enough: its refusal alone leaves the index untouched.
+const INDEX_IS_SHORT: Question = Question(2);
+
+// Room for the bytes of one manifest and for its index.
+#[derive(Drop)]
+struct Room {
+    bytes: [u8; SIZE],
+    index: [u32; WORDS],
+}
+
+impl Room {
+    fn new() -> Room {
+        Room {
+            bytes: [0; SIZE],
+            index: [0; WORDS],
+        }
+    }
+}
+
+// What a call is given of one manifest.
+#[derive(Drop)]
+struct Call<'a> {
+    bytes: &'a [u8],
+    base: u64,
+    revision: u32,
+    index: &'a mut [u32],
+}
+
+// What four words of a line say of a call, or nothing where they ask for a longer index than there is.
+fn call_at<'a>(line: &[u8], first: usize, room: &'a mut Room) -> Option<Call<'a>>
+    requires { first ≤ 4 }
+{
+    let index = room
+        .index
+        .as_mut_slice()
+        .get_mut(..number::<usize>(line, first + 2))?;
+    index.fill(FILL);
+    Some(Call {
+        bytes: bytes(line, first + 3, room.bytes.as_mut_slice()),
+        base: number(line, first),
+        revision: number(line, first + 1),
+        index,
+    })
+}
+
 // Whether each word is this one.
 fn are_all(words: &[u32], word: u32) -> bool {
     words.iter().all(|w| *w == word)
 }
 
-// Whether the index is what a refusal leaves: untouched after question 2, else cleared.
+// Whether the index is what a refusal leaves: cleared, but for one question.
 fn is_refused(question: Question, index: &[u32]) -> bool {
-    are_all(index, if question.0 == 2 { FILL } else { 0 })
+    are_all(index, if question == INDEX_IS_SHORT { FILL } else { 0 })
 }
 
 // Whether the words behind the starts are what acceptance leaves.
 fn is_cleared(index: &[u32]) -> bool {
-    index.iter().skip(12).all(|w| *w == 0)
+    index.get(12..).is_some_and(|behind| are_all(behind, 0))
 }
 
 // Whether the index is what the answer says that it is.
@@ -89,16 +135,6 @@ fn print_decoded(rt: &impl Print, decoded: Decoded, index: &[u32]) -> io::Result
     print_end(rt, is_left(decoded, index))
 }
 
-fn print_difference(rt: &impl Print, difference: Difference) -> io::Result<()> {
-    let Difference {
-        section,
-        part,
-        entry,
-        inner,
-    } = difference;
-    print!(rt; "differs {section} {part} {entry} {inner}")
-}
-
 fn print_both_starts(rt: &impl Print, index: &[u32], index2: &[u32]) -> io::Result<()> {
     print_starts(rt, " starts", index)?;
     print_starts(rt, " starts", index2)
@@ -116,7 +152,7 @@ fn print_verdict(
             print_both_starts(rt, index, index2)?;
         }
         Ok(Err(difference)) => {
-            print_difference(rt, difference)?;
+            print!(rt; "differs {difference}")?;
             print_both_starts(rt, index, index2)?;
         }
         Err(SideRefusal::Snapshot(refusal)) => print!(rt; "snapshot {refusal}")?,
@@ -128,112 +164,46 @@ fn print_verdict(
     print_end(rt, are_left(verdict, index, index2))
 }
 
-// What a line says of one manifest: the numbers of the call, and where its HEX stands.
-#[derive(Clone, Copy)]
-struct Call {
-    base: u64,
-    revision: u32,
-    words: usize,
-    hex: usize,
-}
-
-fn small_number(s: &[u8], at: usize) -> u32 {
-    (number(s, at) % 4294967296) as u32
-}
-
-fn call_at(s: &[u8], at: usize) -> Call {
-    let revision = after_word(s, at);
-    let words = after_word(s, revision);
-    Call {
-        base: number(s, at),
-        revision: small_number(s, revision),
-        words: position(s, words),
-        hex: after_word(s, words),
-    }
-}
-
-fn decode(rt: &impl Print, s: &[u8], call: Call, index: &mut [u32]) -> io::Result<()> {
-    index.fill(FILL);
-    let decoded = manifest::decode_manifest(s, call.base, call.revision, index);
+fn decode(rt: &impl Print, call: Call) -> io::Result<()> {
+    let index = call.index;
+    let decoded = manifest::decode_manifest(call.bytes, call.base, call.revision, index);
     print_decoded(rt, decoded, index)
 }
 
-fn decode_tail(
-    rt: &impl Print,
-    s: &[u8],
-    call: Call,
-    t: &[u8],
-    index: &mut [u32],
-) -> io::Result<()> {
-    index.fill(FILL);
-    let decoded = state_codec::decode_snapshot(s, t, call.base, call.revision, index);
+fn decode_tail(rt: &impl Print, call: Call, tail: &[u8]) -> io::Result<()> {
+    let index = call.index;
+    let decoded = state_codec::decode_snapshot(call.bytes, tail, call.base, call.revision, index);
     print_decoded(rt, decoded, index)
 }
 
-fn compare(
-    rt: &impl Print,
-    s: &[u8],
-    call: Call,
-    index: &mut [u32],
-    t: &[u8],
-    call2: Call,
-    index2: &mut [u32],
-) -> io::Result<()> {
-    index.fill(FILL);
-    index2.fill(FILL);
+fn compare(rt: &impl Print, snapshot: Call, target: Call) -> io::Result<()> {
+    let index = snapshot.index;
+    let index2 = target.index;
     let verdict = state_manifest::compare_manifests(
-        s,
-        call.base,
-        call.revision,
+        snapshot.bytes,
+        snapshot.base,
+        snapshot.revision,
         index,
-        t,
-        call2.base,
-        call2.revision,
+        target.bytes,
+        target.base,
+        target.revision,
         index2,
     );
     print_verdict(rt, verdict, index, index2)
 }
 
 // The answer to a line of four, five or eight words. There is none where it asks for a longer index than there is.
-fn answer(
-    rt: &impl Print,
-    s: &[u8],
-    room: &mut [u8],
-    index: &mut [u32],
-    room2: &mut [u8],
-    index2: &mut [u32],
-) -> io::Result<()> {
-    let call = call_at(s, 0);
-    let words = call.words;
-    let next = after_word(s, call.hex);
-    let call2 = call_at(s, next);
-    let words2 = call2.words;
-    if index.len() < words || index2.len() < words2 {
+fn answer(rt: &impl Print, line: &[u8], room: &mut Room, room2: &mut Room) -> io::Result<()> {
+    let Some(call) = call_at(line, 0, room) else {
         return Ok(());
-    }
-    let n = bytes(s, call.hex, room);
-    if s.len() <= next {
-        decode(rt, part(room, 0, n), call, &mut index[..words])
-    } else if s.len() <= after_word(s, next) {
-        let tail = bytes(s, next, room2);
-        decode_tail(
-            rt,
-            part(room, 0, n),
-            call,
-            part(room2, 0, tail),
-            &mut index[..words],
-        )
-    } else {
-        let n2 = bytes(s, call2.hex, room2);
-        compare(
-            rt,
-            part(room, 0, n),
-            call,
-            &mut index[..words],
-            part(room2, 0, n2),
-            call2,
-            &mut index2[..words2],
-        )
+    };
+    match words(line) {
+        4 => decode(rt, call),
+        5 => decode_tail(rt, call, bytes(line, 4, &mut room2.bytes)),
+        _ => match call_at(line, 4, room2) {
+            Some(target) => compare(rt, call, target),
+            None => Ok(()),
+        },
     }
 }
 
@@ -246,52 +216,29 @@ fn next_byte(reader: &mut impl BufRead) -> io::Result<Option<u8>> {
     Ok(byte)
 }
 
-// Reads a line with its end, byte by byte, and answers how many bytes it has: 0 where the input has ended.
-fn next_line(reader: &mut impl BufRead, line: &mut [u8]) -> io::Result<usize> {
-    for n in 0..line.len() {
-        let Some(byte) = next_byte(reader)? else {
-            return Ok(n);
-        };
-        line[n] = byte;
-        if byte == b'\n' {
-            return Ok(n + 1);
+// Reads a line, without its end, or as much of it as there is room for; or nothing where the input has ended.
+fn next_line<'a>(reader: &mut impl BufRead, room: &'a mut [u8]) -> io::Result<Option<&'a [u8]>> {
+    for n in 0..room.len() {
+        match next_byte(reader)? {
+            None if n == 0 => return Ok(None),
+            None | Some(b'\n') => return Ok(Some(&room[..n])),
+            Some(byte) => room[n] = byte,
         }
     }
-    Ok(line.len())
-}
-
-fn lines(
-    rt: &impl Print,
-    reader: &mut impl BufRead,
-    line: &mut [u8],
-    room: &mut [u8],
-    index: &mut [u32],
-    room2: &mut [u8],
-    index2: &mut [u32],
-) -> io::Result<()> {
-    for _ in 0..LINES {
-        let n = next_line(reader, line)?;
-        if n == 0 {
-            return Ok(());
-        }
-        answer(rt, part(line, 0, n), room, index, room2, index2)?;
-    }
-    Ok(())
+    Ok(Some(room))
 }
 
 fn main(rt: HostRuntime) -> io::Result<()> {
+    let mut reader = rt.reader();
     let mut line = [0u8; LINE];
-    let mut room = [0u8; SIZE];
-    let mut index = [0u32; WORDS];
-    let mut room2 = [0u8; SIZE];
-    let mut index2 = [0u32; WORDS];
-    lines(
-        &rt,
-        &mut rt.reader(),
-        &mut line,
-        &mut room,
-        &mut index,
-        &mut room2,
-        &mut index2,
-    )
+    let mut room = Room::new();
+    let mut room2 = Room::new();
+    // Input may have no end: so the lines are counted.
+    for _ in 0..LINES {
+        let Some(line) = next_line(&mut reader, &mut line)? else {
+            return Ok(());
+        };
+        answer(&rt, line, &mut room, &mut room2)?;
+    }
+    Ok(())
 }

@@ -3,22 +3,23 @@ use Prim.Native.Nat.{ℕ, zero, suc, ◌+◌, ◌-◌, ◌≤◌, ◌<◌, min}
 use native.Mathlib.Omega.{arith}
 use native.Mathlib.Nat.{min-eq_left, sub-zero}
 use mathlib.Core.Path.{◌≡◌, refl, sym, ap, ◌∙◌}
-use mathlib.Core.Bool.{Bool, true, false, cond, true≢false}
+use mathlib.Core.Bool.{Bool, true, false, cond}
 use mathlib.Core.List.{List}
 use lib.ListN.{length}
 use lib.Dec.{eqb}
 use borrow.Author.Tests.{eq-eqb, ne_eqb, eqb-true}
-use Rattle.std.specs.Prelude.{Err, is_err}
+use Rattle.std.specs.Prelude.{Err}
 use Rattle.state.specs.Bytes.{AreBytes, span}
 use Rattle.state.specs.declared.Difference.{Difference}
 use Rattle.state_wire.specs.Fields.{max_snapshot_bytes}
 use Rattle.format.specs.Lists.{same}
 use Rattle.format.specs.Format.{Rule, Fmt, El, ◌then◌, list}
+use Rattle.format.specs.Manifest.{entry}
 use Rattle.format.specs.Places.{number_at, skip, past}
 use Rattle.format.specs.Values.{values_at, value_at, WellEach}
 use Rattle.format.proofs.Values.{well-then, well-list, written}
 use Rattle.verdict.specs.Verdict.{Agreement, compatible, ◌or_else◌, field, along}
-use Rattle.state_manifest.specs.Comparing.{Both}
+use Rattle.state_manifest.specs.Comparing.{Both, Lists, Tells}
 
 -- ---- one or else the other
 -- one that comes to x is no difference, and the other comes to y; or it is one
@@ -27,10 +28,6 @@ or-next {e = e} i o j = j ∙ ap (λ l. l or_else e) (sym o ∙ i)
 
 pub or-found : {x d : Agreement} {f : Difference} (e : Agreement) → x ≡ d → x ≡ Err f → Err f ≡ d or_else e
 or-found e i o = ap (λ l. l or_else e) (sym o ∙ i)
-
--- a verdict that is a difference is not `compatible`
-pub not-compatible : (v : Agreement) → is_err v ≡ true → v ≡ compatible → ⊥
-not-compatible v d e = true≢false (sym d ∙ ap (λ a. is_err a) e)
 
 -- ---- two values
 module _ {s t : List ℕ} where
@@ -57,6 +54,17 @@ module _ {s t : List ℕ} where
       → r ≡ cond (same (span s a e) (span t b g)) compatible d → r ≡ field f d (value_at f s a) (value_at f t b)
   unfolding field
   field_is f d {a} {b} h i j k = k ∙ rw (i, j, written max_snapshot_bytes s h.bytes f a h.well, written max_snapshot_bytes t h.bytes' f b h.well')
+
+-- entry i of two lists, compared as closures tell: where both end, and what they come to
+pub record Entries (l : Lists) (s t : List ℕ) (i p q e f : ℕ) (x : Agreement) : Type 0 where
+  pub end : e ≡ past (entry l.list) s p
+  pub end' : f ≡ past (entry l.list) t q
+  pub found : x ≡ field (entry l.list) (Err (l.of_entry i)) (value_at (entry l.list) s p) (value_at (entry l.list) t q)
+
+pub entries_told : {l : Lists} {s t : List ℕ} {ends ends' : (at end : ℕ) → Type 0} {entries counts : (place : ℕ) → Difference → Type 0} → Tells l s t ends ends' entries counts
+    → {i p q e f : ℕ} {d : Difference} {x : Agreement} → Both (entry l.list) s t p q → ends p e → ends' q f → entries i d
+    → x ≡ cond (same (span s p e) (span t q f)) compatible (Err d) → Entries l s t i p q e f x
+entries_told {l} r {i} b h k o g = record { end = r.ends-so h; end' = r.ends-so' k; found = field_is (entry l.list) (Err (l.of_entry i)) b (r.ends-so h) (r.ends-so' k) (g ∙ rw (r.entry-so o)) }
 
 -- ---- a list by its count n and where its first entry stands, p
 module _ (k r : Fmt) (l : ℕ) (u : Rule) (s : List ℕ) (a : ℕ) {n p : ℕ} (count : n ≡ number_at 4 s a) (first : p ≡ min (a + 4) (length s)) where

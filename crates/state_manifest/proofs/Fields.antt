@@ -4,6 +4,7 @@ use mathlib.Core.Path.{◌≡◌, refl, sym, ap, ap₂, ◌∙◌}
 use mathlib.Core.Bool.{cond}
 use mathlib.Core.List.{List, [], ◌∷◌}
 use lib.ListN.{length}
+use lib.Dec.{eqb}
 use Rattle.std.proofs.lemmas.List.{append-nil}
 use Rattle.state.specs.Bytes.{span}
 use Rattle.format.specs.Lists.{same}
@@ -15,7 +16,7 @@ use Rattle.format.specs.Places.{number_at, skip, past}
 use Rattle.format.specs.Values.{value_at}
 use Rattle.verdict.specs.Verdict.{Agreement, compatible, ◌or_else◌, in_blocks, field, along, ports_verdict, head_verdict, param_verdict, params_verdict, block_verdict}
 use Rattle.state_manifest.specs.Comparing.{Both, lists_verdict, ports_lists, ports_at}
-use Rattle.state_manifest.proofs.Comparing.{both_first, both-next, field_is, list-values, list-past, entries_at}
+use Rattle.state_manifest.proofs.Comparing.{or-next, both_first, both-next, field_is, list-values, list-past, entries_at, Walking, walk_end, walk-ended}
 
 -- ---- the ports of a block, as a list of keys with nothing behind them
 key-alone : (f : Fmt) (d : Agreement) (v w : El (f then done)) → field (f then done) d v w ≡ field f d v.0 w.0
@@ -71,6 +72,13 @@ module _ (s t : List ℕ) where
       (ap₂ ◌or_else◌ (first (number 4) (number 8) (in_blocks 4 i 0) n3)
       (at (number 8) (in_blocks 5 i 0) (both-next (number 4) (number 8) n3 refl refl))))))
 
+  -- block i at p and at q, of which head and parameters are alike: its ports at x and at y are left
+  pub record PortsLeft (i p q x y : ℕ) : Type 0 where
+    pub both : Both (connector_keys then connector_keys) s t x y
+    pub found : {r : Agreement} → r ≡ ports_at i s t x y → r ≡ block_verdict i (value_at (entry blocks) s p) (value_at (entry blocks) t q)
+    pub ends : {e f : ℕ} → e ≡ past (connector_keys then connector_keys) s x → f ≡ past (connector_keys then connector_keys) t y
+        → (e ≡ past (entry blocks) s p) × (f ≡ past (entry blocks) t q)
+
   -- ---- a block's lists: parameters at list and at other, ports behind them at x and at y
   module _ (p q : ℕ) {list other : ℕ} (el : list ≡ past (block_key then block_head) s p) (eo : other ≡ past (block_key then block_head) t q) where
     lists-both : Both (entry blocks) s t p q → Both (params then connector_keys then connector_keys) s t list other
@@ -108,3 +116,19 @@ module _ (s t : List ℕ) where
           → (e ≡ past (entry blocks) s p) × (f ≡ past (entry blocks) t q)
       unfolding block_rest past
       block-past a b = (rw (a, ex, el), rw (b, ey, eo))
+
+    -- the parameters were walked to the end of one list, and there are as many
+    pub ports_left : (i : ℕ) {n m a b : ℕ} → n ≡ number_at 4 s list → m ≡ number_at 4 t other → a ≡ min (list + 4) (length s) → b ≡ min (other + 4) (length t)
+        → Both (entry blocks) s t p q → {h : Agreement} → h ≡ head_verdict i (value_at (entry blocks) s p) (value_at (entry blocks) t q) → h ≡ compatible
+        → {x y j : ℕ} → Walking text value (param_verdict i) (in_blocks 8 i) s t
+        (along (param_verdict i) (in_blocks 8 i) 0 (entries_at text value (param_verdict i) (in_blocks 8 i) s t s n a) (entries_at text value (param_verdict i) (in_blocks 8 i) s t t m b))
+        (skip (past text s) (past value s) n a) (skip (past text t) (past value t) m b) n m x y j
+        → j ≡ min n m → {v : Agreement} → v ≡ cond (eqb n m) compatible (in_blocks 8 i j) → v ≡ compatible → PortsLeft i p q x y
+    ports_left i count count' first first' w head alike walk none counts same-count =
+        let e = params-past count count' first first' (walk-ended walk none counts refl same-count) in
+        let u = params-found count count' first first' i (walk_end walk none counts) in
+        record {
+          both = ports-both e.0 e.1 w;
+          found = λ r. or-next head alike (or-next u same-count r) ∙ block-is e.0 e.1 i;
+          ends = block-past e.0 e.1;
+        }

@@ -1,9 +1,9 @@
 -- The snapshot's manifest and the target's: what `compare_manifests` comes to.
 use Prim.Native.Nat.{ℕ}
-use mathlib.Core.Path.{◌≡◌, sym, ap, ◌∙◌}
+use mathlib.Core.Path.{◌≡◌, refl, sym, ap, ◌∙◌}
 use mathlib.Core.List.{List}
 use Rattle.state.specs.Bytes.{AreBytes}
-use Rattle.std.specs.Prelude.{Result, Ok, Err}
+use Rattle.std.specs.Prelude.{Result, Ok, Err, MatchResult, IsErrAnd}
 use Rattle.state.specs.declared.Refusal.{Refusal}
 use Rattle.state.specs.declared.Starts.{Starts}
 use Rattle.state.specs.declared.SideRefusal.{SideRefusal}
@@ -16,6 +16,15 @@ use Rattle.verdict.specs.Demand3.{VerdictDemand}
 use Rattle.verdict.proofs.Demand3.{verdict-right}
 use Rattle.state_layout.specs.Tables.{manifest_of}
 use Rattle.state_manifest.proofs.Acceptance.{judgment, answer-refused, judged-as}
+
+-- what `map_err` made r of: the same value, or the error that became this one
+pub mapped_ok : {T E D : Type 0} (P : E → D → Type 0) (d : Result T E) {r : Result T D} → MatchResult d (λ x. r ≡ Ok x) (λ e. IsErrAnd r (P e)) → {x : T} → r ≡ Ok x → d ≡ Ok x
+mapped_ok P (Ok y) h e = cc
+mapped_ok P (Err y) h e = absurd (rw e at h)
+
+pub mapped_err : {T E D : Type 0} (P : E → D → Type 0) (d : Result T E) {r : Result T D} → MatchResult d (λ x. r ≡ Ok x) (λ e. IsErrAnd r (P e)) → {y : D} → r ≡ Err y → (e : E) × (d ≡ Err e) × P e y
+mapped_err P (Ok x) h e = absurd (cc)
+mapped_err P (Err x) h e = (x, refl, rw e at h)
 
 module _ (s old : List ℕ) (base revision : ℕ) (t old' : List ℕ) (base' revision' : ℕ) (bytes : AreBytes s) (bytes' : AreBytes t)
     {d : Decoded} (is : d ≡ decode_manifest target_bound_classes s base revision old) {new : List ℕ} (left : new ≡ decoded_index target_bound_classes s revision old) where

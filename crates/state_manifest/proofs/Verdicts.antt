@@ -4,15 +4,16 @@ use native.Mathlib.Omega.{arith}
 use mathlib.Core.Path.{◌≡◌, refl, sym, ap, ◌∙◌, subst}
 use mathlib.Core.Bool.{Bool, true, false}
 use mathlib.Core.List.{List, [], ◌∷◌}
-use mathlib.Core.Logic.{◌⊎◌, inl, inr}
+use mathlib.Core.Logic.{inl, inr}
 use lib.ListN.{length, get_or}
 use types.Run.{OneOf}
 use Rattle.text.proofs.Blocks.{both}
+use Rattle.std.proofs.lemmas.List.{get_or_default}
 use Rattle.state.specs.Bytes.{span}
 use Rattle.std.specs.Prelude.{Ok, Err}
 use Rattle.format.specs.Lists.{same}
 use Rattle.format.specs.Least.{honest}
-use Rattle.format.specs.Manifest.{counted, sequence, blocks, input_definitions, manifest}
+use Rattle.format.specs.Manifest.{sequence, input_definitions, manifest}
 use Rattle.format.specs.Places.{section_starts, manifest_starts, past}
 use Rattle.format.specs.Values.{value_at, Well}
 use Rattle.format.proofs.Lists.{same_true, same_differs}
@@ -20,11 +21,12 @@ use Rattle.format.proofs.Complete.{same_bytes}
 use Rattle.format.proofs.Canonical.{manifest-honest}
 use Rattle.format.proofs.Places.{end-got}
 use Rattle.format.proofs.Values.{well-then, written}
-use Rattle.verdict.specs.Verdict.{Agreement, compatible, differs, ◌or_else◌, block_verdict, Comparison, whole, listwise, entrywise, comparisons, formats, over, verdict}
+use Rattle.verdict.specs.Verdict.{Agreement, compatible, differs, ◌or_else◌, Comparison, whole, entrywise, comparisons, formats, over, verdict}
 use Rattle.verdict.proofs.Faithful.{Faithful, AllFaithful, comparisons-faithful}
 use Rattle.state_layout.specs.Tables.{manifest_of}
 use Rattle.state_layout.proofs.Tables.{limit}
-use Rattle.state_manifest.specs.Comparing.{Both, named, comparison, Stands}
+use Rattle.state_manifest.specs.Comparing.{Both, comparison, Stands}
+use Rattle.state_manifest.proofs.Sections.{starts-twelve}
 use Rattle.state_manifest.proofs.Comparing.{or-next, or-found, both_first, both-next, field_is}
 
 -- ---- one of the comparisons
@@ -102,16 +104,9 @@ module _ (s t : List ℕ) where
   both_at (c ∷ cs) (suc i) a b h w = both_at cs i (past c.format s a) (past c.format t b) (omega arith) (both-next c.format (sequence (formats cs)) w refl refl)
 
 -- ---- by their numbers
--- sections 2, 4 and 12 by whole entries
-named-is : (k : ℕ) → OneOf (2 ∷ 4 ∷ 12 ∷ []) k → comparison k ≡ entrywise k (named k)
-unfolding comparison
-named-is k (inl e) = rw e
-named-is k (inr (inl e)) = rw e
-named-is k (inr (inr e)) = rw e
-
--- the sections that are walked: the blocks, and these
+-- the sections that are walked
 abbrev Walked : ℕ → Type 0
-Walked k = OneOf (3 ∷ []) k ⊎ OneOf (2 ∷ 4 ∷ 12 ∷ []) k
+Walked = OneOf (3 ∷ 2 ∷ 4 ∷ 12 ∷ [])
 
 -- of those numbered from k on, all others are compared as a whole
 abbrev Wholes : ℕ → List Comparison → Type 0
@@ -134,22 +129,6 @@ whole_is k h n =
     (whole-at 1 comparisons (k - 1) (omega (arith, h.0, h.1)) wholes (λ w. n (subst Walked e w)))
 
 module _ (s t : List ℕ) (a b : ℕ) where
-  -- section 3
-  pub blocks-both : {k : ℕ} → OneOf (3 ∷ []) k → Both (comparison k).format s t a b → Both (counted blocks) s t a b
-  unfolding comparison
-  blocks-both e w = subst (λ k. Both (comparison k).format s t a b) e w
-
-  pub blocks-found : {k : ℕ} → OneOf (3 ∷ []) k → {r : Agreement} → r ≡ at_place s t (listwise 3 blocks block_verdict) a b → r ≡ at_place s t (comparison k) a b
-  unfolding comparison
-  blocks-found e {r} h = subst (λ k. r ≡ at_place s t (comparison k) a b) (sym e) h
-
-  -- sections 2, 4 and 12
-  pub named-both : {k : ℕ} → OneOf (2 ∷ 4 ∷ 12 ∷ []) k → Both (comparison k).format s t a b → Both (counted (named k)) s t a b
-  named-both {k} o w = subst (λ c. Both c.format s t a b) (named-is k o) w
-
-  pub named-found : {k : ℕ} → OneOf (2 ∷ 4 ∷ 12 ∷ []) k → {r : Agreement} → r ≡ at_place s t (entrywise k (named k)) a b → r ≡ at_place s t (comparison k) a b
-  named-found {k} o {r} h = subst (λ c. r ≡ at_place s t c a b) (sym (named-is k o)) h
-
   -- a whole section whose bytes differ
   pub whole-differs : (k : ℕ) → (1 ≤ k) × (k ≤ 12) → (Walked k → ⊥) → Both (comparison k).format s t a b
       → same (span s a (past (comparison k).format s a)) (span t b (past (comparison k).format t b)) ≡ false → differs k 0 0 0 ≡ at_place s t (comparison k) a b
@@ -177,35 +156,40 @@ start_there : {u starts : List ℕ} → Stands u starts → (i : ℕ) → i ≤ 
 unfolding manifest manifest_starts
 start_there {u} p i h = rw p.starts-are (start_is u comparisons i 0 h p.well p.ends)
 
--- section k of one, from a up to e
-module _ {u starts : List ℕ} (p : Stands u starts) {k : ℕ} (from : 1 ≤ k) (to : k ≤ 12) {a e : ℕ}
-    (ea : a ≡ get_or starts (k - 1) (length u)) (ee : e ≡ get_or starts (k + 1 - 1) (length u)) where
-  section-start : a ≡ start_at u comparisons (k - 1) 0
-  section-start = ea ∙ start_there p (k - 1) (omega arith)
+-- section k of one, which starts at a
+module _ {u starts : List ℕ} (p : Stands u starts) {k : ℕ} (from : 1 ≤ k) (to : k ≤ 12) {a : ℕ} (ea : a ≡ get_or starts (k - 1) 0) where
+  twelve : length starts ≡ 12
+  twelve = ap length p.starts-are ∙ starts-twelve u
 
-  section-end : e ≡ past (comparison k).format u a
+  section-start : a ≡ start_at u comparisons (k - 1) 0
+  section-start = ea ∙ get_or_default starts (k - 1) 0 (length u) (omega (arith, twelve)) ∙ start_there p (k - 1) (omega arith)
+
+  section-end : get_or starts k (length u) ≡ past (comparison k).format u a
   unfolding comparison
   section-end =
-      let x : k + 1 - 1 ≡ suc (k - 1) = omega arith in
-      ee ∙ ap (λ (i : ℕ). get_or starts i (length u)) x ∙ start_there p (suc (k - 1)) (omega arith) ∙ start-next u comparisons (k - 1) 0 (omega arith) ∙ rw section-start
+      let x : k ≡ suc (k - 1) = omega arith in
+      ap (λ (i : ℕ). get_or starts i (length u)) x ∙ start_there p (suc (k - 1)) (omega arith) ∙ start-next u comparisons (k - 1) 0 (omega arith) ∙ rw section-start
+
+  -- its bytes
+  section-is : {x : List ℕ} → x ≡ span u (get_or starts (k - 1) 0) (get_or starts k (length u)) → x ≡ span u a (past (comparison k).format u a)
+  section-is e = e ∙ rw (← ea, section-end)
 
 module _ {s t starts starts' : List ℕ} (p : Stands s starts) (q : Stands t starts') where
-  -- section k, from a up to e of s and from b up to f of t
-  module _ {k : ℕ} (l : Left s t k) (h : k ≤ 12) {a b e f : ℕ} (ea : a ≡ get_or starts (k - 1) (length s)) (eb : b ≡ get_or starts' (k - 1) (length t))
-      (ee : e ≡ get_or starts (k + 1 - 1) (length s)) (ef : f ≡ get_or starts' (k + 1 - 1) (length t)) where
+  -- section k, at a of s and at b of t
+  module _ {k : ℕ} (l : Left s t k) (h : k ≤ 12) {a b : ℕ} (ea : a ≡ get_or starts (k - 1) 0) (eb : b ≡ get_or starts' (k - 1) 0) where
     place : k - 1 < 12
     place = omega (arith, l.from)
 
     pub section-both : Both (comparison k).format s t a b
     unfolding manifest comparison
     section-both =
-        rw (section-start p l.from h ea ee, section-start q l.from h eb ef)
+        rw (section-start p l.from h ea, section-start q l.from h eb)
         (both_at s t comparisons (k - 1) 0 0 place (record { bytes = p.bytes; bytes' = q.bytes; well = p.well; well' = q.well }))
 
     -- what it comes to, and what those behind it do
     comes-to : (at_place s t (comparison k) a b or_else left_from s t comparisons (suc (k - 1)) 0 0) ≡ verdict (manifest_of s) (manifest_of t)
     unfolding comparison
-    comes-to = rw (section-start p l.from h ea ee, section-start q l.from h eb ef) (left-next s t comparisons (k - 1) 0 0 place) ∙ l.is
+    comes-to = rw (section-start p l.from h ea, section-start q l.from h eb) (left-next s t comparisons (k - 1) 0 0 place) ∙ l.is
 
     faithful : Faithful (1 + (k - 1)) (comparison k)
     unfolding comparison
@@ -216,9 +200,10 @@ module _ {s t starts starts' : List ℕ} (p : Stands s starts) (q : Stands t sta
     honest-here = honest-at comparisons (k - 1) place manifest-honest
 
     -- its bytes u and v were tested
-    module _ {x : Bool} {u v : List ℕ} (eu : u ≡ span s a e) (ev : v ≡ span t b f) (test : x ≡ same u v) where
+    module _ {x : Bool} {u v : List ℕ} (eu : u ≡ span s (get_or starts (k - 1) 0) (get_or starts k (length s))) (ev : v ≡ span t (get_or starts' (k - 1) 0) (get_or starts' k (length t)))
+        (test : x ≡ same u v) where
       bytes_same : x ≡ same (span s a (past (comparison k).format s a)) (span t b (past (comparison k).format t b))
-      bytes_same = test ∙ rw (eu, ev, section-end p l.from h ea ee, section-end q l.from h eb ef)
+      bytes_same = test ∙ rw (section-is p l.from h ea eu, section-is q l.from h eb ev)
 
       -- they differ
       module _ (differ : x ≡ false) where

@@ -1,12 +1,12 @@
 -- Two manifests side by side: only contracts of private functions cite it.
-use Rattle.std.specs.Prelude.{Err, ℕ, ◌+◌, ◌-◌, ◌≡◌, cond, List, length, get_or, eqb}
+use Rattle.std.specs.Prelude.{Err, ℕ, ◌+◌, ◌-◌, ◌≡◌, List, length, get_or}
 use Rattle.state.specs.Bytes.{AreBytes}
 use Rattle.state.specs.declared.Difference.{Difference}
 use Rattle.state_manifest.specs.declared.compare.Sides.{Sides}
 use Rattle.state_wire.specs.Fields.{max_snapshot_bytes}
 use Rattle.format.specs.Format.{Fmt, El, free, done}
 use Rattle.format.specs.Keys.{connector_key}
-use Rattle.format.specs.Manifest.{connector_keys, Section, section, entry, counted, enums, connectors, input_definitions, manifest}
+use Rattle.format.specs.Manifest.{connector_keys, Section, section, entry, counted, input_definitions, manifest}
 use Rattle.format.specs.Places.{manifest_starts, past}
 use Rattle.format.specs.Values.{value_at, Well}
 use Rattle.verdict.specs.Verdict.{Agreement, ◌or_else◌, field, along, ports_verdict, Comparison, entrywise, comparisons}
@@ -17,10 +17,6 @@ pub record Both (f : Fmt) (s t : List ℕ) (a b : ℕ) : Type 0 where
   pub bytes' : AreBytes t
   pub well : Well max_snapshot_bytes f s a
   pub well' : Well max_snapshot_bytes f t b
-
--- sections 2 and 4 by their numbers; any other number stands for 12
-abbrev pub named : ℕ → Section
-named k = cond (eqb k 2) enums (cond (eqb k 4) connectors input_definitions)
 
 -- the ports of a block as a list of entries
 abbrev pub ports : Section
@@ -48,6 +44,14 @@ pub record Lists : Type 0 where
   pub list : Section
   pub of_entry : (place : ℕ) → Difference
   pub of_count : (place : ℕ) → Difference
+
+-- the entries of section k, and the count of them
+abbrev pub section_lists : (k : ℕ) → Section → Lists
+section_lists k e = record {
+  list = e;
+  of_entry = λ i. record { section = k; part = 0; entry = i; inner = 0 };
+  of_count = λ i. record { section = k; part = 13; entry = i; inner = 0 };
+}
 
 -- what closures tell of them: where an entry of s or of t ends that starts at a position, and the differences
 pub record Tells (l : Lists) (s t : List ℕ) (ends ends' : (at end : ℕ) → Type 0) (entries counts : (place : ℕ) → Difference → Type 0) : Type 0 where

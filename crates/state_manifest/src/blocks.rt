@@ -71,21 +71,21 @@ fn compare_parameter(s: &[u8], t: &[u8], at: &mut Sides, i: usize, j: usize) -> 
     compare_part(s, t, at, value_end, in_block(Part::PARAMETER_VALUE, i, j))
 }
 
-// The ports of block i on one side: inputs are part 9, outputs 11, their count is the next part. The places move behind them.
+// The inputs of block i, which are part 9, or its outputs, part 11; their count is the next part. The places move behind them.
 #[tactic(auto, using(crate::proofs::Fields::ports_are), unfolding(format::specs::Manifest::connector_keys, format::specs::Places::past))]
-fn compare_port_bindings(s: &[u8], t: &[u8], at: &mut Sides, side: u8, i: usize) -> Verdict
+fn compare_port_bindings(s: &[u8], t: &[u8], at: &mut Sides, part: u8, i: usize) -> Verdict
     requires both { Both (counted ports) s.now t.now at.old.snapshot at.old.target }
-    requires part_bound { side ≤ 11 }
-    ensures verdict { result ≡ ports_verdict side i (value_at connector_keys s.now at.old.snapshot) (value_at connector_keys t.now at.old.target) }
+    requires part_bound { part ≤ 11 }
+    ensures verdict { result ≡ ports_verdict part i (value_at connector_keys s.now at.old.snapshot) (value_at connector_keys t.now at.old.target) }
     ensures moved { result ≡ compatible → Moved connector_keys s.now t.now at.old at.new }
 {
-    let count = side + 1;
+    let count = part + 1;
     compare_lists(
         s,
         t,
         at,
         connector_key_end,
-        |j| in_block(side, i, j),
+        |j| in_block(part, i, j),
         |j| in_block(count, i, j),
     )
 }

@@ -7,12 +7,12 @@ ghost use Rattle.format.specs.Places.{number_at, past};
 ghost use Rattle.format.specs.Values.{value_at};
 ghost use Rattle.verdict.specs.Verdict.{compatible, entrywise, verdict};
 ghost use Rattle.state_layout.specs.Tables.{manifest_of};
-ghost use Rattle.state_manifest.specs.Comparing.{Both, Lists, Tells, lists_verdict, Moved, named, comparison, Stands};
+ghost use Rattle.state_manifest.specs.Comparing.{Both, Lists, Tells, lists_verdict, Moved, comparison, Stands};
 
 use super::blocks::compare_blocks;
 use state::{Difference, Part, Section, Starts, Verdict};
-use state_index::ahead;
 use state_index::keys::count_at;
+use state_index::{ahead, word_at};
 use state_key_order::same_bytes;
 use state_layout::ends::{class_end, connector_end, definition_end};
 use state_wire::part;
@@ -105,17 +105,6 @@ pub(crate) fn compare_lists<
     compare_counts(counts, at_count(counts.shorter()))
 }
 
-// Where an entry of section 2 or 4 ends, or of section 12, for which any other number stands.
-fn named_end(s: &[u8], section: u8, at: usize) -> usize
-    ensures { result ≡ past (entry (named section)) s.now at }
-{
-    match section {
-        Section::ENUMS => class_end(s, at),
-        Section::CONNECTORS => connector_end(s, at),
-        _ => definition_end(s, at),
-    }
-}
-
 // A difference of a section, in an entry or in the count of them.
 fn in_section(section: u8, part: u8, entry: usize) -> Difference
     ensures { result ≡ record { section = section; part = part; entry = entry; inner = 0 } }
@@ -128,46 +117,50 @@ fn in_section(section: u8, part: u8, entry: usize) -> Difference
     }
 }
 
-// Sections 2, 4 and 12, whose counts stand at two places, entry by entry.
-fn compare_named(s: &[u8], t: &[u8], section: u8, at: &mut Sides) -> Verdict
-    requires { Both (counted (named section)) s.now t.now at.old.snapshot at.old.target }
-    ensures { result ≡ (entrywise section (named section)).compare (value_at (counted (named section)) s.now at.old.snapshot) (value_at (counted (named section)) t.now at.old.target) }
-{
-    compare_lists(
-        s,
-        t,
-        at,
-        |u, p| named_end(u, section, p),
-        |i| in_section(section, Part::WHOLE, i),
-        |i| in_section(section, Part::ENTRY_COUNT, i),
-    )
-}
-
-// A section whose bytes differ, at two places.
+// A section whose bytes differ, at two places. The blocks are walked, and sections 2, 4 and 12 compared entry by entry.
+#[tactic(auto, unfolding(crate::specs::Comparing::comparison))]
 fn compare_section(s: &[u8], t: &[u8], section: u8, mut at: Sides) -> Verdict
     requires le_section { (1 ≤ section) × (section ≤ 12) }
     requires both { Both (comparison section).format s.now t.now at.snapshot at.target }
     requires apart { same (span s.now at.snapshot (past (comparison section).format s.now at.snapshot)) (span t.now at.target (past (comparison section).format t.now at.target)) ≡ false }
     ensures { result ≡ (comparison section).compare (value_at (comparison section).format s.now at.snapshot) (value_at (comparison section).format t.now at.target) }
 {
+    let at_entry = |i| in_section(section, Part::WHOLE, i);
+    let at_count = |i| in_section(section, Part::ENTRY_COUNT, i);
     match section {
         Section::BLOCKS => compare_blocks(s, t, &mut at),
-        Section::ENUMS | Section::CONNECTORS | Section::INPUT_DEFINITIONS => compare_named(
-            s, t, section, &mut at,
+        Section::ENUMS => compare_lists(s, t, &mut at, class_end, at_entry, at_count),
+        Section::CONNECTORS => compare_lists(s, t, &mut at, connector_end, at_entry, at_count),
+        Section::INPUT_DEFINITIONS => compare_lists(
+            s,
+            t,
+            &mut at,
+            definition_end,
+            at_entry,
+            at_count,
         ),
         _ => Err(in_section(section, Part::WHOLE, 0)),
     }
 }
 
-// Where a section starts; section 13 would at the end.
-fn section_start(s: &[u8], starts: Starts, section: u8) -> usize
-    requires { (1 ≤ section) × (length starts.at ≡ 12) }
-    ensures { result ≡ get_or starts.at (section - 1) (length s.now) }
+// Where a section starts; the first words of an accepted manifest's index are its starts too.
+pub(crate) fn section_start(starts: &[u32], section: u8) -> usize
+    requires { (1 ≤ section) × (section ≤ length starts.now) }
+    ensures { result ≡ get_or starts.now (section - 1) 0 }
 {
-    match starts.at.get(usize::from(section) - 1) {
-        Some(start) => *start as usize,
-        None => s.len(),
-    }
+    word_at(starts, usize::from(section) - 1)
+}
+
+// The bytes of a section: up to the next one, or to the end.
+fn section_part(s: &[u8], starts: Starts, section: u8) -> &[u8]
+    requires { (1 ≤ section) × ((section ≤ 12) × (length starts.at ≡ 12)) }
+    ensures { result.now ≡ span s.now (get_or starts.at (section - 1) 0) (get_or starts.at section (length s.now)) }
+{
+    let end = match section {
+        Section::INPUT_DEFINITIONS => s.len(),
+        _ => section_start(&starts.at, section + 1),
+    };
+    part(s, section_start(&starts.at, section), end)
 }
 
 // Two accepted manifests. Sections are compared as bytes first, and walked only where they differ.
@@ -176,14 +169,14 @@ pub(crate) fn compare_sections(s: &[u8], t: &[u8], snapshot: Starts, target: Sta
     ensures { result ≡ verdict (manifest_of s.now) (manifest_of t.now) }
 {
     for k in Section::PORTABILITY..=Section::INPUT_DEFINITIONS {
-        let at = Sides {
-            snapshot: section_start(s, snapshot, k),
-            target: section_start(t, target, k),
-        };
-        let left = part(s, at.snapshot, section_start(s, snapshot, k + 1));
-        let right = part(t, at.target, section_start(t, target, k + 1));
+        let left = section_part(s, snapshot, k);
+        let right = section_part(t, target, k);
         let apart = !same_bytes(left, right);
         if apart {
+            let at = Sides {
+                snapshot: section_start(&snapshot.at, k),
+                target: section_start(&target.at, k),
+            };
             return compare_section(s, t, k, at);
         }
     }

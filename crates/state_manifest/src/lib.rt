@@ -18,11 +18,11 @@ ghost use Rattle.verdict.specs.Answers.{compare_manifests, target_index};
 ghost use Rattle.verdict.specs.Demand3.{VerdictDemand, WordsDemand};
 ghost use Rattle.state_manifest.specs.Accepted.{Accepted};
 
-use compare::compare_sections;
+use compare::{compare_sections, section_start};
 use manifest::decode_manifest;
-use state::{Question, Refusal, SideRefusal, Units, Verdict};
+use state::{Question, Refusal, Section, SideRefusal, Units, Verdict};
 use state_index::keys::{block_key_end, count_at, number_at};
-use state_index::{ahead, clear, word_at};
+use state_index::{ahead, clear};
 
 // The word total of the slots whose count stands at a position: the largest end.
 pub fn state_words(s: &[u8], at: usize) -> u64
@@ -33,6 +33,7 @@ pub fn state_words(s: &[u8], at: usize) -> u64
     let mut p = ahead(s, at, 4);
     let mut most = 0u64;
     for _ in 0..count {
+        // Offset and length stand on the way to the next slot: a function for where a slot ends would look for them again.
         let offset = block_key_end(s, p);
         let length = ahead(s, offset, 8);
         most = most.max(number_at(s, offset) + number_at(s, length));
@@ -47,14 +48,12 @@ fn count_units(s: &[u8], index: &mut [u32]) -> Result<Units, Refusal<u64>>
     ensures value { result ≡ units_answer 0 (got (manifest_of s.now) 0) }
     ensures index_after { index.new ≡ cond (leb (units_of (manifest_of s.now)) (2 ^ 64 - 1)) index.old (replicate (length index.old) 0) }
 {
-    let words = state_words(s, word_at(index, 8));
-    let connectors = count_at(s, word_at(index, 3)) as u64;
+    let words = state_words(s, section_start(index, Section::STATE_SLOTS));
+    // std has no From between usize and u64; both are 64 bits wide here.
+    let connectors = count_at(s, section_start(index, Section::CONNECTORS)) as u64;
     if (u64::MAX - connectors) / 4 < words {
         clear(index, 0, index.len());
-        return Err(Refusal {
-            question: Question(39),
-            at: 0,
-        });
+        return Err(Question(39).at(0));
     }
     Ok(Units {
         words,
@@ -93,13 +92,7 @@ pub fn compare_manifests(
     ensures index2_after { index2.new ≡ target_index target_bound_classes snapshot.now base revision index.old target.now base2 revision2 index2.old }
     ensures verdict_demand { VerdictDemand target_bound_classes snapshot.now base revision index.old target.now base2 revision2 index2.old result }
 {
-    let starts = match decode_manifest(snapshot, base, revision, index) {
-        Ok(starts) => starts,
-        Err(refusal) => return Err(SideRefusal::Snapshot(refusal)),
-    };
-    let starts2 = match decode_manifest(target, base2, revision2, index2) {
-        Ok(starts) => starts,
-        Err(refusal) => return Err(SideRefusal::Target(refusal)),
-    };
+    let starts = decode_manifest(snapshot, base, revision, index).map_err(SideRefusal::Snapshot)?;
+    let starts2 = decode_manifest(target, base2, revision2, index2).map_err(SideRefusal::Target)?;
     Ok(compare_sections(snapshot, target, starts, starts2))
 }

@@ -3,8 +3,8 @@ use mathlib.Core.Path.{◌≡◌, ◌∙◌, refl}
 use Prim.Native.Nat.{◌<◌, min}
 use Rattle.format.specs.Format.{plain, late}
 use Rattle.format.specs.Manifest.{params}
-use Rattle.state_manifest.proofs.Comparing.{or-next, or-found, walk-here, walk_start, walk-both, walk-found, walk-next, walk_end, walk-ended}
-use Rattle.state_manifest.proofs.Fields.{params-both, params-found, params-past, ports-both, block-is, block-past}
+use Rattle.state_manifest.proofs.Comparing.{or-next, or-found, walk-here, walk_start, walk-both, walk-found, walk-next, walk_end}
+use Rattle.state_manifest.proofs.Fields.{params-both, params-found, block-is, ports_left}
 use Rattle.state_manifest.proofs.blocks.compare_blocks.Goals as goal
 
 pub blocks-2-init : goal.blocks-2-init
@@ -39,8 +39,8 @@ compare_ports-requires c =
     let e = c.enter-parameters.ensures in
     let j : c.shorter-place.result ≡ c.loop-j.j = omega arith in
     let x = rw (c.in_block-count.ensures, j) at c.compare_counts-in-blocks-2.ensures in
-    let h = params-past _ _ _ _ m.snapshot m.target e.counts.0 e.counts.1 e.places.0 e.places.1 (walk-ended c.loop-j.invariant (omega arith) x refl c.in_default-compare_counts.is) in
-    ports-both _ _ _ _ m.snapshot m.target h.0 h.1 (walk-both w lt)
+    let l = ports_left _ _ _ _ m.snapshot m.target _ e.counts.0 e.counts.1 e.places.0 e.places.1 (walk-both w lt) c.compare_head.ensures.verdict c.in_default.is c.loop-j.invariant (omega arith) x c.in_default-compare_counts.is in
+    l.both
 
 pub blocks-2-preserved : goal.blocks-2-preserved
 blocks-2-preserved c =
@@ -50,13 +50,10 @@ blocks-2-preserved c =
     let e = c.enter-parameters.ensures in
     let j : c.shorter-place.result ≡ c.loop-j.j = omega arith in
     let x = rw (c.in_block-count.ensures, j) at c.compare_counts-in-blocks-2.ensures in
-    let h = params-past _ _ _ _ m.snapshot m.target e.counts.0 e.counts.1 e.places.0 e.places.1 (walk-ended c.loop-j.invariant (omega arith) x refl c.in_default-compare_counts.is) in
-    let v = params-found _ _ _ _ m.snapshot m.target e.counts.0 e.counts.1 e.places.0 e.places.1 _ (walk_end c.loop-j.invariant (omega arith) x) in
+    let l = ports_left _ _ _ _ m.snapshot m.target _ e.counts.0 e.counts.1 e.places.0 e.places.1 (walk-both w lt) c.compare_head.ensures.verdict c.in_default.is c.loop-j.invariant (omega arith) x c.in_default-compare_counts.is in
     let r = c.compare_ports.ensures.moved c.in_default-compare_ports.is in
-    let z = block-past _ _ _ _ m.snapshot m.target h.0 h.1 r.snapshot r.target in
-    walk-next w lt
-    (or-next c.compare_head.ensures.verdict c.in_default.is (or-next v c.in_default-compare_counts.is c.compare_ports.ensures.verdict) ∙ block-is _ _ _ _ m.snapshot m.target h.0 h.1 _)
-    c.in_default-compare_ports.is z.0 z.1
+    let z = l.ends r.snapshot r.target in
+    walk-next w lt (l.found c.compare_ports.ensures.verdict) c.in_default-compare_ports.is z.0 z.1
 
 pub returns-then-i-shorter : goal.returns-then-i-shorter
 returns-then-i-shorter c = walk_end c.blocks-2.invariant (omega arith) (rw c.in_block.ensures at c.compare_counts.ensures)
@@ -96,8 +93,5 @@ returns-in-Err-compare_ports c =
     let e = c.enter-parameters.ensures in
     let j : c.shorter-place.result ≡ c.loop-j.j = omega arith in
     let x = rw (c.in_block-count.ensures, j) at c.compare_counts-in-blocks-2.ensures in
-    let h = params-past _ _ _ _ m.snapshot m.target e.counts.0 e.counts.1 e.places.0 e.places.1 (walk-ended c.loop-j.invariant (omega arith) x refl c.in_default-compare_counts.is) in
-    let v = params-found _ _ _ _ m.snapshot m.target e.counts.0 e.counts.1 e.places.0 e.places.1 _ (walk_end c.loop-j.invariant (omega arith) x) in
-    walk-found w lt
-    (or-next c.compare_head.ensures.verdict c.in_default.is (or-next v c.in_default-compare_counts.is c.compare_ports.ensures.verdict) ∙ block-is _ _ _ _ m.snapshot m.target h.0 h.1 _)
-    c.in-Err-compare_ports.is
+    let l = ports_left _ _ _ _ m.snapshot m.target _ e.counts.0 e.counts.1 e.places.0 e.places.1 (walk-both w lt) c.compare_head.ensures.verdict c.in_default.is c.loop-j.invariant (omega arith) x c.in_default-compare_counts.is in
+    walk-found w lt (l.found c.compare_ports.ensures.verdict) c.in-Err-compare_ports.is
