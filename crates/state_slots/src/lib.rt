@@ -48,7 +48,7 @@ fn next_stateful<'a>(s: &[u8], left: &mut Iter<'a, u32>) -> Option<&'a u32>
 
 // Asks each stateful block with its slot, in order: yes to all, or the first no; 21 where a block or a slot is left alone.
 #[tactic(auto, using(crate::proofs::Walks::walk))]
-fn for_pairs<F: Fn(usize, usize) -> Result<(), Question>>(
+fn for_pairs<F: Fn(&[u8], usize, usize) -> Result<(), Question>>(
     s: &[u8],
     blocks: &[u32],
     slots: &[u32],
@@ -56,13 +56,13 @@ fn for_pairs<F: Fn(usize, usize) -> Result<(), Question>>(
 ) -> Result<(), Question>
     ghost answer: { ℕ → ℕ → ℕ }
     requires callable { F.IsAlwaysCallable ask }
-    requires answers { (b e : ℕ) → b < 2 ^ 64 → e < 2 ^ 64 → (r : _) → F.post ask b e r → r ≡ said (answer b e) }
+    requires answers { (t : _) (b e : ℕ) → t.now ≡ s.now → b < 2 ^ 64 → e < 2 ^ 64 → (r : _) → F.post ask t b e r → r ≡ said (answer b e) }
     ensures { result ≡ said (pairwise answer (stateful_of s.now blocks.now) slots.now) }
 {
     let mut left = blocks.iter();
     for slot in slots {
         let block = next_stateful(s, &mut left).ok_or(Question(21))?;
-        ask(*block as usize, *slot as usize)?;
+        ask(s, *block as usize, *slot as usize)?;
     }
     if next_stateful(s, &mut left).is_some() {
         return Err(Question(21));
@@ -162,8 +162,8 @@ pub fn validate_slots(s: &[u8], index: &mut [u32]) -> Result<(), Question>
     let (tables, room) = index.split_at_mut(end);
     let blocks = table_of(s, tables, Section::BLOCKS);
     let slots = table_of(s, tables, Section::STATE_SLOTS);
-    for_pairs(s, blocks, slots, |block, slot| key_answer(s, block, slot))?;
-    for_pairs(s, blocks, slots, |block, slot| slot_answer(s, block, slot))?;
+    for_pairs(s, blocks, slots, key_answer)?;
+    for_pairs(s, blocks, slots, slot_answer)?;
     if !slots_cover(s, slots, room) {
         return Err(Question(24));
     }
