@@ -1,71 +1,45 @@
 -- Questions 31 and 32 of a manifest that was read, from what the code finds in its bytes.
-use Prim.Native.Nat.{ℕ, zero, suc, ◌+◌, ◌-◌, ◌≤◌, ◌<◌, min}
+use Prim.Native.Nat.{ℕ, zero, suc, min}
 use native.Mathlib.Omega.{arith}
 use mathlib.Core.Path.{◌≡◌, refl, sym, ap, ◌∙◌}
 use mathlib.Core.Bool.{Bool, true, false, not, beq, cond, ◌&&◌}
-use mathlib.Core.List.{List, [], ◌∷◌}
+use mathlib.Core.List.{List, [], ◌∷◌, map}
 use lib.ListN.{length, get_or}
-use lib.Dec.{leb, ltb, eqb}
-use borrow.Author.Tests.{eqb-true, ne_eqb, lt-ltb, leb-true, leb-false}
+use lib.Dec.{ltb, eqb}
+use borrow.Author.Tests.{eqb-true, ne_eqb, lt-ltb}
 use Rattle.std.specs.Prelude.{Ok, Err}
-use Rattle.std.specs.List.{list_any, range_with_len}
 use Rattle.state.specs.Outcome.{said}
-use Rattle.state.specs.Bytes.{span}
-use Rattle.state.proofs.Bytes.{span-cons, span_none}
-use Rattle.format.specs.Lists.{is_in}
 use Rattle.format.specs.Format.{text, done, ◌then◌, El}
-use Rattle.format.specs.Keys.{block_key}
-use Rattle.format.specs.Manifest.{block_head, block_rest, portability, manifest}
+use Rattle.format.specs.Manifest.{entry, blocks, block_head, block_rest, portability, manifest}
 use Rattle.format.specs.Fields.{class_path, blocks_of, portability_of, portability_tag, target}
 use Rattle.format.specs.Places.{past}
 use Rattle.format.specs.Values.{value_at}
 use Rattle.questions.specs.Sets.{any, all, ◌unless◌, first}
 use Rattle.questions.specs.Portability.{some_bound, tag_holds, target_holds, portability_holds, target_bound_classes}
 use Rattle.questions.proofs.Chains.{says-yes, says-no}
-use Rattle.state_index.specs.declared.Table.{Table as Place}
-use Rattle.state_layout.specs.Tables.{manifest_of, table_at, Tabled}
-use Rattle.state_layout.proofs.Indexed.{table-blocks, start_there}
+use Rattle.state_layout.specs.Tables.{manifest_of, table_of, Tabled}
+use Rattle.state_layout.proofs.Indexed.{table-blocks, laid_of}
 use Rattle.state_portability.specs.Bound.{some_bound_at}
 
 -- ---- the words that list blocks
-module _ (bound : List (List ℕ)) (s index : List ℕ) where
-  abbrev pub bound_word : ℕ → Bool
-  bound_word i = is_in (value_at text s (past block_key s (get_or index i 0))) bound
-
-  some-words : (n from : ℕ) → from + n ≤ length index → list_any bound_word (range_with_len from n) ≡ some_bound_at bound s (span index from (from + n))
-  unfolding some_bound any class_path block_rest block_head value_at
-  some-words zero from h = rw (← span_none index from (from + 0) (omega arith))
-  some-words (suc n) from h =
-      let e : from + 1 + n ≡ from + suc n = omega arith in
-      rw (span-cons index from (from + suc n) (omega arith) h, some-words n (from + 1) (omega arith), e)
-
-  pub some-listed : (from to : ℕ) → to ≤ length index → list_any bound_word (range_with_len from (to - from)) ≡ some_bound_at bound s (span index from to)
-  unfolding some_bound any
-  some-listed from to h = go (leb from to) refl
-    where
-      go : (b : Bool) → leb from to ≡ b → list_any bound_word (range_with_len from (to - from)) ≡ some_bound_at bound s (span index from to)
-      go true e =
-          let l : from ≤ to = leb-true from to e in
-          let q : from + (to - from) ≡ to = omega arith in
-          some-words (to - from) from (omega arith) ∙ ap (λ (n : ℕ). some_bound_at bound s (span index from n)) q
-      go false e = let l : to < from = leb-false from to e in let z : to - from ≡ 0 = omega arith in rw z
+some-listed : (bound : List (List ℕ)) (s ps : List ℕ) → some_bound_at bound s ps ≡ some_bound bound (map (value_at (entry blocks) s) ps)
+unfolding some_bound any class_path block_rest block_head value_at
+some-listed bound s [] = refl
+some-listed bound s (p ∷ ps) = rw (some-listed bound s ps)
 
 -- ---- question 31
 pub tag_unasked : (s : List ℕ) (revision : ℕ) → eqb revision 2 ≡ false → true ≡ tag_holds target_bound_classes revision (manifest_of s)
 unfolding tag_holds
 tag_unasked s revision e = rw e
 
-module _ {s index : List ℕ} (t : Tabled s index) {blocks : Place} (is : blocks ≡ table_at 3 (manifest_of s)) where
-  pub blocks_within : blocks.to ≤ length index
-  blocks_within = rw is (start_there t 4 (omega arith))
-
-  pub tag_asked : (revision : ℕ) → eqb revision 2 ≡ true → {b : Bool} → b ≡ some_bound_at target_bound_classes s (span index blocks.from blocks.to) → {tag : ℕ} → tag ≡ get_or s 0 0
+module _ {s index : List ℕ} (t : Tabled s index) where
+  pub tag_asked : (revision : ℕ) → eqb revision 2 ≡ true → {b : Bool} → b ≡ some_bound_at target_bound_classes s (table_of 3 s index) → {tag : ℕ} → tag ≡ get_or s 0 0
       → beq b (eqb tag 1) ≡ tag_holds target_bound_classes revision (manifest_of s)
   unfolding tag_holds value_at manifest portability_of portability_tag portability
   tag_asked revision asked {b} some {tag} reads = rw (asked, ← some_is, ← reads) (either b (eqb tag 1))
     where
       some_is : b ≡ some_bound target_bound_classes (blocks_of (manifest_of s))
-      some_is = some ∙ rw is (ap (some_bound target_bound_classes) (table-blocks t).values)
+      some_is = some ∙ some-listed target_bound_classes s (table_of 3 s index) ∙ ap (some_bound target_bound_classes) (table-blocks (laid_of t)).values
 
       either : (b t : Bool) → beq b t ≡ cond b t (not t)
       either true true = refl

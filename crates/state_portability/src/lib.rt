@@ -1,8 +1,7 @@
 // Whether a manifest is bound to a target: questions 31 and 32.
 #![tactic(auto)]
 
-ghost use Rattle.std.specs.Prelude.{◌≡◌, ◌≤◌, ◌<◌, [], length, get_or};
-ghost use Rattle.state.specs.Bytes.{span};
+ghost use Rattle.std.specs.Prelude.{◌≡◌, ◌<◌, [], get_or};
 ghost use Rattle.state.specs.Outcome.{said};
 ghost use Rattle.format.specs.Lists.{same, is_in};
 ghost use Rattle.format.specs.Fields.{portability_of};
@@ -13,8 +12,8 @@ ghost use Rattle.state_portability.specs.Bound.{some_bound_at};
 
 use state::{Portability, Question, Section};
 use state_index::keys::{block_key_end, byte_at};
-use state_index::{Table, ahead, text_end, text_part, word_at};
-use state_layout::table_at;
+use state_index::{ahead, text_end, text_part};
+use state_layout::table_of;
 
 // The revision under which question 31 is asked.
 pub const EXECUTION_ABI_REVISION: u32 = 2;
@@ -66,25 +65,22 @@ pub fn requires_target(class: &[u8]) -> bool
     (0..15).any(|row| is_row(class, row))
 }
 
-// Does the class of some block that the table lists depend on the target?
-fn some_requires_target(s: &[u8], index: &[u32], blocks: Table) -> bool
-    requires { blocks.to ≤ length index.now }
-    ensures { result ≡ some_bound_at target_bound_classes s.now (span index.now blocks.from blocks.to) }
+// Does the class of some block that the words list depend on the target?
+fn some_requires_target(s: &[u8], blocks: &[u32]) -> bool
+    ensures { result ≡ some_bound_at target_bound_classes s.now blocks.now }
 {
-    (blocks.from..blocks.to).any(|i| {
-        requires_target(text_part(s, block_key_end(s, word_at(index, i))))
-    })
+    blocks.iter().any(|block| requires_target(text_part(s, block_key_end(s, *block as usize))))
 }
 
 // Question 31.
-#[tactic(auto, using(crate::proofs::Bounding::tag_unasked, crate::proofs::Bounding::blocks_within, crate::proofs::Bounding::tag_asked))]
+#[tactic(auto, using(crate::proofs::Bounding::tag_unasked, crate::proofs::Bounding::tag_asked, state_layout::proofs::Indexed::laid_of))]
 fn tag_holds(s: &[u8], revision: u32, index: &[u32]) -> bool
     requires { Tabled s.now index.now }
     ensures { result ≡ tag_holds target_bound_classes revision (manifest_of s.now) }
 {
     let asked = revision == EXECUTION_ABI_REVISION;
     let tagged = byte_at(s, 0) == Portability::TARGET_BOUND;
-    !asked || some_requires_target(s, index, table_at(s, index, Section::BLOCKS)) == tagged
+    !asked || some_requires_target(s, table_of(s, index, Section::BLOCKS)) == tagged
 }
 
 // Question 32.

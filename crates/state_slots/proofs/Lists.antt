@@ -1,11 +1,10 @@
--- Lists kept of lists mapped, and stored.
-use Prim.Native.Nat.{ℕ, suc, ◌+◌, ◌≤◌}
+-- Lists kept of lists mapped.
+use Prim.Native.Nat.{ℕ}
 use native.Mathlib.Omega.{arith}
-use mathlib.Core.Path.{◌≡◌, refl, ap, ◌∙◌}
+use mathlib.Core.Path.{◌≡◌, refl, ap}
 use mathlib.Core.Bool.{Bool, true, false, cond}
 use mathlib.Core.List.{List, [], ◌∷◌, map}
-use lib.ListN.{length, drop, set}
-use lib.Seq.{sets, drop-set-lt}
+use lib.ListN.{length}
 use Rattle.format.specs.Admits.{All}
 use Rattle.format.proofs.Lists.{alike-each}
 use Rattle.questions.specs.Sets.{keep}
@@ -29,7 +28,6 @@ module _ {A B : Type 0} where
       one_by_one [] a = refl
       one_by_one (x ∷ xs) a = rw (a.0.0, one_by_one xs a.1)
 
--- ---- stores
-pub drop-sets : (n k : ℕ) (vs l : List ℕ) → k + length vs ≤ n → drop n (sets l k vs) ≡ drop n l
-drop-sets n k [] l h = refl
-drop-sets n k (v ∷ vs) l h = drop-sets n (suc k) vs (set l k v) (omega arith) ∙ drop-set-lt n l k v (omega arith)
+pub empty : (l : List ℕ) → length l ≡ 0 → l ≡ []
+empty [] h = refl
+empty (x ∷ l) h = absurd (omega arith)

@@ -1,119 +1,111 @@
 -- The walk over stateful blocks and slots, one turn at a time.
-use Prim.Native.Nat.{ℕ, zero, suc, ◌+◌, ◌-◌, ◌≤◌, ◌<◌}
-use native.Mathlib.Nat.{add-zero}
-use native.Mathlib.Omega.{arith}
+use Prim.Native.Nat.{ℕ, ◌+◌, ◌≤◌, ◌<◌}
+use native.Mathlib.Numerals.{add-one}
 use mathlib.Core.Path.{◌≡◌, refl, sym, ap, ◌∙◌, subst}
 use mathlib.Core.Bool.{Bool, true, false, ◌&&◌}
 use mathlib.Core.List.{List, [], ◌∷◌, map}
-use lib.ListN.{length, get_or}
-use lib.Dec.{leb}
-use borrow.Author.Tests.{leb-true, leb-false}
+use lib.ListN.{length, get_or, drop, drop_of_length-le}
+use lib.Seq.{drop-cons}
+use denote.Param.Members.{Mut}
+use denote.Ref.{Bor}
 use Rattle.std.specs.Prelude.{Option, Some, None, Result, Ok, Err}
+use Rattle.std.specs.Bool.{⊤}
+use Rattle.std.specs.Fn.{CalledAt}
+use Rattle.std.specs.Iterator.{Yields}
+use Rattle.std.specs.List.{FoldsTo}
 use Rattle.std.specs.Option.{MatchOption, is_some, ok_or}
+use Rattle.std.proofs.Common.{Iter}
+use Rattle.std.specs.Slice.Iter.{iter_rest, iter_steps}
 use Rattle.state.specs.declared.Question.{Question}
-use Rattle.state.specs.Bytes.{span}
 use Rattle.state.specs.Outcome.{said}
-use Rattle.state.proofs.Bytes.{span-cons, span_none}
 use Rattle.format.specs.Lists.{same}
 use Rattle.format.specs.Manifest.{blocks, state_slots}
 use Rattle.format.specs.Places.{key_at}
 use Rattle.questions.specs.Sets.{keep, ◌unless◌, first}
 use Rattle.questions.specs.Declarations.{is_stateful}
 use Rattle.questions.proofs.Chains.{first_one, answered-yes, answered-no, lacked, had}
+use Rattle.state_slots.proofs.Lists.{empty}
 use Rattle.state_slots.specs.Walk.{block_at, slot_at, stateful_of, NextStateful, pairwise, same_lists, keys_agree, pair_answer, key_asked, words_asked}
 
 -- ---- the next stateful block
-abbrev pub stateful_word : (s index : List ℕ) → ℕ → Bool
-stateful_word s index i = is_stateful (block_at s (get_or index i 0))
-
-module _ (s index : List ℕ) (to : ℕ) (l : to ≤ length index) where
-  stateful-here : (i : ℕ) → i < to → stateful_word s index i ≡ true → stateful_of s index i to ≡ get_or index i 0 ∷ stateful_of s index (i + 1) to
+module _ (s : List ℕ) {F : Type 0} {g : Mut F (Bor (Bor ℕ) × Unit {0}) Bool} (f : F)
+    (yes : (x : Bor ℕ) (q : F) → CalledAt g f x true q → is_stateful (block_at s x.now) ≡ true)
+    (no : (x : Bor ℕ) (q : F) → CalledAt g f x false q → (q ≡ f) × (is_stateful (block_at s x.now) ≡ false)) where
+  found : (a u : Iter ℕ) (r : Option (Bor ℕ)) → iter_steps a r u → MatchOption r ⊤ (λ x. (h : F) × CalledAt g f x true h) → NextStateful s (iter_rest a) (iter_rest u) r
   unfolding keep
-  stateful-here i h t = rw (span-cons index i to h l, t)
+  found a u None e m = record { next = rw (empty (iter_rest a) e.0) }
+  found a u (Some x) e m = record { next = rw (e, yes x m.0 m.1) }
 
-  -- the first n of the words list none
-  stateful-skip : (n i : ℕ) → i + n ≤ to → ((k : ℕ) → i ≤ k → k < i + n → stateful_word s index k ≡ false) → stateful_of s index i to ≡ stateful_of s index (i + n) to
+  passed : (xs : List (Bor ℕ)) (a t u : Iter ℕ) (r : Option (Bor ℕ)) (j : F) → Yields iter_steps a xs t → iter_steps t r u
+      → FoldsTo (λ p x q. CalledAt g p x false q) f xs j → MatchOption r ⊤ (λ x. (h : F) × CalledAt g j x true h) → NextStateful s (iter_rest a) (iter_rest u) r
   unfolding keep
-  stateful-skip zero i h f = rw (add-zero i) refl
-  stateful-skip (suc n) i h f =
-      let t : stateful_word s index i ≡ false = f i (omega arith) (omega arith) in
-      let e : i + 1 + n ≡ i + suc n = omega arith in
-      rw (span-cons index i to (omega arith) l, t)
-      (stateful-skip n (i + 1) (omega arith) (λ k p q. f k (omega arith) (omega arith)) ∙ ap (λ (j : ℕ). stateful_of s index j to) e)
+  passed [] a t u r j y e k m = subst (λ b. NextStateful s (iter_rest b) (iter_rest u) r) (sym y) (found t u r e (subst (λ p. MatchOption r ⊤ (λ x. (h : F) × CalledAt g p x true h)) (sym k) m))
+  passed (x ∷ xs) a t u r j y e k m =
+      let n = no x k.0 k.1 in
+      let h : stateful_of s (iter_rest a) ≡ stateful_of s (iter_rest y.0) = rw (y.1, n.1) in
+      record { next = rw h (passed xs y.0 t u r j y.2 e (subst (λ p. FoldsTo (λ p x q. CalledAt g p x false q) p xs j) n.0 k.2) m).next }
 
-  stateful-none : (i : ℕ) → to ≤ i → stateful_of s index i to ≡ []
-  unfolding keep
-  stateful-none i h = rw (← span_none index i to h)
+  pub next_found : (a u : Iter ℕ) (r : Option (Bor ℕ)) → (xs : List (Bor ℕ)) × (j : F) × ((t : Iter ℕ) × Yields iter_steps a xs t × iter_steps t r u)
+      × FoldsTo (λ p x q. CalledAt g p x false q) f xs j × MatchOption r ⊤ (λ x. (h : F) × CalledAt g j x true h) → NextStateful s (iter_rest a) (iter_rest u) r
+  next_found a u r h = passed h.0 a h.2.0 u r h.1 h.2.1 h.2.2 h.3 h.4
 
-  stateful-past : (i j : ℕ) → i ≤ j → j ≤ to → ((k : ℕ) → i ≤ k → k < j → stateful_word s index k ≡ false) → stateful_of s index i to ≡ stateful_of s index j to
-  stateful-past i j h k f =
-      let e : i + (j - i) ≡ j = omega arith in
-      stateful-skip (j - i) i (omega arith) (λ m p q. f m p (omega arith)) ∙ ap (λ (n : ℕ). stateful_of s index n to) e
+-- ---- the answer to all is that for the blocks that are left and the slots from the i-th on
+pub record Walking (f : ℕ → ℕ → ℕ) (s bs es left : List ℕ) (i : ℕ) : Type 0 where
+  pub is : pairwise f (stateful_of s bs) es ≡ pairwise f (stateful_of s left) (drop i es)
 
-  pub next-is : (from : ℕ) (r : Option ℕ)
-      → MatchOption r ((k : ℕ) → from ≤ k → k < to → stateful_word s index k ≡ false)
-      (λ i. (from ≤ i) × (i < to) × (stateful_word s index i ≡ true) × ((k : ℕ) → from ≤ k → k < i → stateful_word s index k ≡ false))
-      → NextStateful s index from to r
-  next-is from None h = record { one = λ w e. cc; none = λ _. go (leb from to) refl }
-    where
-      go : (b : Bool) → leb from to ≡ b → stateful_of s index from to ≡ []
-      go true e = stateful-past from to (leb-true from to e) (omega arith) h ∙ stateful-none to (omega arith)
-      go false e = stateful-none from (omega (arith, leb-false from to e))
-  next-is from (Some i) h = record {
-    one = λ w e.
-        let q : i ≡ w = cc in
-        let t : stateful_word s index w ≡ true = subst (λ (n : ℕ). stateful_word s index n ≡ true) q h.2 in
-        (omega (arith, h.1), stateful-past from w (omega (arith, h.0)) (omega (arith, h.1)) (λ k a b. h.3 k a (omega arith)) ∙ stateful-here w (omega (arith, h.1)) t);
-    none = λ e. cc;
-  }
+pub walk_start : (f : ℕ → ℕ → ℕ) (s bs es : List ℕ) → Walking f s bs es bs 0
+walk_start f s bs es = record { is = refl }
 
-some-is : (o : Option ℕ) → is_some o ≡ true → (b : ℕ) × (o ≡ Some b)
-some-is (Some b) e = (b, refl)
-some-is None e = cc
-
-none-is : (o : Option ℕ) → is_some o ≡ false → o ≡ None
-none-is (Some b) e = cc
-none-is None e = refl
-
--- ---- the answer to all is that for the stateful blocks from `block` on and the slots from `slot` on
-pub record Walking (f : ℕ → ℕ → ℕ) (s index : List ℕ) (from to start stop block slot : ℕ) : Type 0 where
-  pub is : pairwise f (stateful_of s index from to) (span index start stop) ≡ pairwise f (stateful_of s index block to) (span index slot stop)
-
-pub walk_start : (f : ℕ → ℕ → ℕ) (s index : List ℕ) (from to start stop : ℕ) → Walking f s index from to start stop from start
-walk_start f s index from to start stop = record { is = refl }
-
-module _ {f : ℕ → ℕ → ℕ} {s index : List ℕ} {from to start stop block slot : ℕ} (g : Walking f s index from to start stop block slot) {next : Option ℕ} (n : NextStateful s index block to next) where
+module _ {f : ℕ → ℕ → ℕ} {s bs es left : List ℕ} {i : ℕ} (g : Walking f s bs es left i) {next : Option (Bor ℕ)} {after : List ℕ} (n : NextStateful s left after next) where
   abbrev whole : ℕ
-  whole = pairwise f (stateful_of s index from to) (span index start stop)
+  whole = pairwise f (stateful_of s bs) es
 
-  module _ (h : stop ≤ slot) where
+  module _ (h : length es ≤ i) where
+    over : whole ≡ pairwise f (stateful_of s left) []
+    over = rw (← drop_of_length-le es h) g.is
+
     pub walk-over : is_some next ≡ false → Ok tt ≡ said whole
     unfolding pairwise
-    walk-over e = rw (g.is, ← span_none index slot stop h, n.none (none-is next e))
+    walk-over e = rw (over, nothing next n e)
+      where
+        nothing : (o : Option (Bor ℕ)) → NextStateful s left after o → is_some o ≡ false → stateful_of s left ≡ []
+        nothing None m e = m.next
+        nothing (Some b) m e = cc
 
     pub walk-block : is_some next ≡ true → Err (record { 0 = 21 }) ≡ said whole
     unfolding pairwise
-    walk-block e = let p = some-is next e in rw (g.is, ← span_none index slot stop h, (n.one p.0 p.1).1)
+    walk-block e = let p = something next n e in rw (over, p.1)
+      where
+        something : (o : Option (Bor ℕ)) → NextStateful s left after o → is_some o ≡ true → (b : Bor ℕ) × (stateful_of s left ≡ b.now ∷ stateful_of s after)
+        something None m e = cc
+        something (Some b) m e = (b, m.next)
 
-  module _ (h : slot < stop) (l : stop ≤ length index) {found : Result ℕ Question} (o : found ≡ ok_or next (record { 0 = 21 })) where
+  module _ (h : i < length es) {found : Result (Bor ℕ) Question} (o : found ≡ ok_or next (record { 0 = 21 })) where
+    abbrev slot : ℕ
+    slot = get_or es i 0
+
+    this : drop i es ≡ slot ∷ drop (i + 1) es
+    this = rw (add-one i) (drop-cons es i 0 h)
+
     pub walk-slot : {q : Question} → found ≡ Err q → Err q ≡ said whole
     unfolding pairwise
-    walk-slot e = let p = lacked next _ o e in rw (p.1, g.is, n.none p.0, span-cons index slot stop h l)
+    walk-slot e =
+        let p = lacked next _ o e in
+        let m : stateful_of s left ≡ [] = (subst (NextStateful s left after) p.0 n).next in
+        rw (p.1, g.is, m, this)
 
-    module _ {b : ℕ} (e : found ≡ Ok b) where
-      pub walk-here : b < to
-      walk-here = (n.one b (had next _ o e)).0
+    module _ {b : Bor ℕ} (e : found ≡ Ok b) {r : Result Unit Question} (a : r ≡ said (f b.now slot)) where
+      turn : whole ≡ first (f b.now slot ∷ pairwise f (stateful_of s after) (drop (i + 1) es) ∷ [])
+      unfolding pairwise
+      turn =
+          let m : stateful_of s left ≡ b.now ∷ stateful_of s after = (subst (NextStateful s left after) (had next _ o e) n).next in
+          rw (g.is, m, this)
 
-      module _ {r : Result Unit Question} (a : r ≡ said (f (get_or index b 0) (get_or index slot 0))) where
-        turn : whole ≡ first (f (get_or index b 0) (get_or index slot 0) ∷ pairwise f (stateful_of s index (b + 1) to) (span index (slot + 1) stop) ∷ [])
-        unfolding pairwise
-        turn = rw (g.is, (n.one b (had next _ o e)).1, span-cons index slot stop h l)
+      pub walk-no : {q : Question} → r ≡ Err q → Err q ≡ said whole
+      walk-no i = answered-no _ a i _ ∙ ap said (sym turn)
 
-        pub walk-no : {q : Question} → r ≡ Err q → Err q ≡ said whole
-        walk-no i = answered-no _ a i _ ∙ ap said (sym turn)
-
-        pub walk-on : {u : Unit} → r ≡ Ok u → Walking f s index from to start stop (b + 1) (slot + 1)
-        walk-on i = record { is = turn ∙ sym (answered-yes _ a i _) ∙ first_one _ }
+      pub walk-on : {u : Unit} → r ≡ Ok u → Walking f s bs es after (i + 1)
+      walk-on i = record { is = turn ∙ sym (answered-yes _ a i _) ∙ first_one _ }
 
 -- ---- what is asked of positions is asked of what stands there
 pairwise-map : {A B C D : Type 0} (f : C → D → ℕ) (g : A → C) (h : B → D) (bs : List A) (es : List B) → pairwise (λ b e. f (g b) (h e)) bs es ≡ pairwise f (map g bs) (map h es)
@@ -143,4 +135,4 @@ module _ (s : List ℕ) (bs es : List ℕ) where
   words-asked = pairwise-map pair_answer (block_at s) (slot_at s) bs es
 
 -- for `for_pairs`
-pub ruleset walk = (walk-over, walk-block, walk-slot, walk-here, walk-on)
+pub ruleset walk = (walk_start, walk-over, walk-block, walk-slot, walk-no, walk-on)

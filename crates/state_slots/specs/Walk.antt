@@ -1,6 +1,6 @@
 -- Questions 21 to 24 by the words of the index, as the walks ask them.
-use Rattle.std.specs.Prelude.{ℕ, ◌+◌, ◌-◌, ◌^◌, ◌≤◌, ◌<◌, min, ◌≡◌, List, [], ◌∷◌, map, Bool, true, false, ◌&&◌, length, get_or, eqb, Option, Some, None}
-use Rattle.state.specs.Bytes.{span}
+use Rattle.std.specs.Prelude.{ℕ, ◌+◌, ◌^◌, ◌<◌, min, ◌≡◌, List, [], ◌∷◌, map, Bool, true, false, ◌&&◌, length, eqb, ltb, cond, Option, Some, None, MatchOption}
+use denote.Ref.{Bor}
 use Rattle.format.specs.Lists.{same}
 use Rattle.format.specs.Manifest.{entry, blocks, state_slots}
 use Rattle.format.specs.Fields.{Entry, state_len, slot_length}
@@ -17,14 +17,13 @@ block_at s p = value_at (entry blocks) s p
 abbrev pub slot_at : List ℕ → ℕ → Entry state_slots
 slot_at s p = value_at (entry state_slots) s p
 
--- the stateful blocks among those that the words from..to list
-abbrev pub stateful_of : (s index : List ℕ) → (from to : ℕ) → List ℕ
-stateful_of s index from to = keep (λ p. is_stateful (block_at s p)) (span index from to)
+-- the stateful blocks among those that words list
+abbrev pub stateful_of : (s ps : List ℕ) → List ℕ
+stateful_of s ps = keep (λ p. is_stateful (block_at s p)) ps
 
--- the next stateful block among them is listed by a word, or there is none
-pub record NextStateful (s index : List ℕ) (from to : ℕ) (r : Option ℕ) : Type 0 where
-  pub one : (w : ℕ) → r ≡ Some w → (w < to) × (stateful_of s index from to ≡ get_or index w 0 ∷ stateful_of s index (w + 1) to)
-  pub none : r ≡ None → stateful_of s index from to ≡ []
+-- the next of them, and what is left behind it
+pub record NextStateful (s old new : List ℕ) (r : Option (Bor ℕ)) : Type 0 where
+  pub next : MatchOption r (stateful_of s old ≡ []) (λ p. stateful_of s old ≡ p.now ∷ stateful_of s new)
 
 -- what blocks and slots are asked pair by pair; 21 where one is left alone
 unfoldable pub pairwise : {A B : Type 0} → (A → B → ℕ) → List A → List B → ℕ
@@ -63,13 +62,10 @@ words_at s p = (number_at 8 s p, number_at 8 s (min (p + 8) (length s)))
 abbrev pub Ends : ℕ × ℕ → Type 0
 Ends w = w.0 + w.1 < 2 ^ 64
 
+-- where they end, if they start where it is expected
+abbrev pub end_of : (expected : ℕ) → ℕ × ℕ → Option ℕ
+end_of n w = cond (eqb w.0 n && ltb (w.0 + w.1) (2 ^ 64)) (Some (w.0 + w.1)) None
+
 -- a slot holds some words, and they end so
 abbrev pub Held : Entry state_slots → Type 0
 Held e = (0 < slot_length e) × Ends (words e)
-
--- room behind the words from..to, two words for each of them; every position is a word
-pub record Room (s index : List ℕ) (from to room : ℕ) : Type 0 where
-  pub forward : from ≤ to
-  pub below : to ≤ room
-  pub fits : room + (to - from) + (to - from) ≤ length index
-  pub short : length s < 2 ^ 32

@@ -1,28 +1,26 @@
 // Questions 21 to 24: the state words that slots hold.
 #![tactic(auto)]
 
-ghost use Rattle.std.specs.Prelude.{ℕ, ◌≡◌, map, ◌+◌, ◌-◌, ◌^◌, ◌<◌, ◌≤◌, length};
-ghost use Rattle.std.proofs.lemmas.List.Edits.{sets};
-ghost use Rattle.state.specs.Bytes.{span};
+ghost use Rattle.std.specs.Prelude.{ℕ, ◌≡◌, map, ◌^◌, ◌<◌, ◌≤◌, length};
+ghost use Rattle.std.specs.Slice.Iter.{iter_rest};
 ghost use Rattle.state.specs.Outcome.{said};
 ghost use Rattle.format.specs.Keys.{block_key};
-ghost use Rattle.format.specs.Manifest.{blocks};
 ghost use Rattle.format.specs.Fields.{state_len};
 ghost use Rattle.format.specs.Admits.{All};
 ghost use Rattle.format.specs.Places.{past};
 ghost use Rattle.questions.specs.Sets.{first};
 ghost use Rattle.questions.specs.Declarations.{is_stateful, declarations};
 ghost use Rattle.questions.specs.Slots.{words, by_offset, join_from, slots};
-ghost use Rattle.state_index.specs.Sort.{Kept};
 ghost use Rattle.state_layout.specs.Tables.{manifest_of, Tabled, Leaves};
-ghost use Rattle.state_slots.specs.Walk.{block_at, slot_at, stateful_of, NextStateful, pairwise, key_asked, words_asked, words_at, Ends, Held, Room};
+ghost use Rattle.state_slots.specs.Walk.{block_at, slot_at, stateful_of, NextStateful, pairwise, key_asked, words_asked, words_at, end_of, Ends, Held};
 
 use state::{BlockKind, Question, Section};
 use state_index::keys::{block_key_end, byte_at, number_at};
-use state_index::{SortKey, Table, ahead, key_part, sort, word_at};
+use state_index::{SortKey, ahead, key_part, words};
 use state_key_order::same_bytes;
 use state_layout::ends::block_kind_at;
-use state_layout::{table_at, table_start};
+use state_layout::{room_start, table_of};
+use std::slice::Iter;
 
 // Is the block at a position stateful?
 #[tactic(auto, using(crate::proofs::Parts::stateful_at))]
@@ -41,36 +39,32 @@ fn state_len(s: &[u8], block: usize) -> u64
     number_at(s, ahead(s, ahead(s, kind, 1), 4))
 }
 
-// The first of the words from..to that lists a stateful block.
-fn next_stateful(s: &[u8], index: &[u32], from: usize, to: usize) -> Option<usize>
-    requires { to ≤ length index.now }
-    ensures { NextStateful s.now index.now from to result }
+// The next stateful block of those that are left.
+fn next_stateful<'a>(s: &[u8], left: &mut Iter<'a, u32>) -> Option<&'a u32>
+    ensures { NextStateful s.now (iter_rest left.old) (iter_rest left.new) result }
 {
-    (from..to).find(|i| is_stateful(s, word_at(index, *i)))
+    left.find(|block| is_stateful(s, **block as usize))
 }
 
 // Asks each stateful block with its slot, in order: yes to all, or the first no; 21 where a block or a slot is left alone.
 #[tactic(auto, using(crate::proofs::Walks::walk))]
-fn for_pairs<F: Fn(usize, usize) -> Result<(), Question>>(
+fn for_pairs<F: Fn(&[u8], usize, usize) -> Result<(), Question>>(
     s: &[u8],
-    index: &[u32],
-    blocks: Table,
-    slots: Table,
+    blocks: &[u32],
+    slots: &[u32],
     ask: F,
 ) -> Result<(), Question>
     ghost answer: { ℕ → ℕ → ℕ }
-    requires within { (blocks.to ≤ length index.now) × (slots.to ≤ length index.now) }
     requires callable { F.IsAlwaysCallable ask }
-    requires answers { (b e : ℕ) → b < 2 ^ 64 → e < 2 ^ 64 → (r : _) → F.post ask b e r → r ≡ said (answer b e) }
-    ensures { result ≡ said (pairwise answer (stateful_of s.now index.now blocks.from blocks.to) (span index.now slots.from slots.to)) }
+    requires answers { (t : _) (b e : ℕ) → t.now ≡ s.now → b < 2 ^ 64 → e < 2 ^ 64 → (r : _) → F.post ask t b e r → r ≡ said (answer b e) }
+    ensures { result ≡ said (pairwise answer (stateful_of s.now blocks.now) slots.now) }
 {
-    let mut from = blocks.from;
-    for i in slots.from..slots.to {
-        let block = next_stateful(s, index, from, blocks.to).ok_or(Question(21))?;
-        ask(word_at(index, block), word_at(index, i))?;
-        from = block + 1;
+    let mut left = blocks.iter();
+    for slot in slots {
+        let block = next_stateful(s, &mut left).ok_or(Question(21))?;
+        ask(s, *block as usize, *slot as usize)?;
     }
-    if next_stateful(s, index, from, blocks.to).is_some() {
+    if next_stateful(s, &mut left).is_some() {
         return Err(Question(21));
     }
     Ok(())
@@ -88,18 +82,11 @@ fn key_answer(s: &[u8], block: usize, slot: usize) -> Result<(), Question>
     Ok(())
 }
 
-// Question 21: the slots' keys are those of the stateful blocks. Both stand in order.
-fn slot_keys_are(s: &[u8], index: &[u32], blocks: Table, slots: Table) -> Result<(), Question>
-    requires { (blocks.to ≤ length index.now) × (slots.to ≤ length index.now) }
-    ensures { result ≡ said (pairwise (key_asked s.now) (stateful_of s.now index.now blocks.from blocks.to) (span index.now slots.from slots.to)) }
+// The words of a slot whose offset stands at a position: the first, and how many.
+fn words_at(s: &[u8], at: usize) -> (u64, u64)
+    ensures { result ≡ words_at s.now at }
 {
-    for_pairs(
-        s,
-        index,
-        blocks,
-        slots,
-        |block, slot| key_answer(s, block, slot),
-    )
+    (number_at(s, at), number_at(s, ahead(s, at, 8)))
 }
 
 // Questions 22 and 23 of the slot of a block.
@@ -107,9 +94,7 @@ fn slot_keys_are(s: &[u8], index: &[u32], blocks: Table, slots: Table) -> Result
 fn slot_answer(s: &[u8], block: usize, slot: usize) -> Result<(), Question>
     ensures { result ≡ said (words_asked s.now block slot) }
 {
-    let at = block_key_end(s, slot);
-    let offset = number_at(s, at);
-    let length = number_at(s, ahead(s, at, 8));
+    let (offset, length) = words_at(s, block_key_end(s, slot));
     if length != state_len(s, block) {
         return Err(Question(22));
     }
@@ -119,64 +104,54 @@ fn slot_answer(s: &[u8], block: usize, slot: usize) -> Result<(), Question>
     Ok(())
 }
 
-// Questions 22 and 23, slot by slot: the slots are those of the stateful blocks, in order. All are asked 21 first, so this is a second walk.
-fn slot_answers(s: &[u8], index: &[u32], blocks: Table, slots: Table) -> Result<(), Question>
-    requires { (blocks.to ≤ length index.now) × (slots.to ≤ length index.now) }
-    ensures { result ≡ said (pairwise (words_asked s.now) (stateful_of s.now index.now blocks.from blocks.to) (span index.now slots.from slots.to)) }
-{
-    for_pairs(
-        s,
-        index,
-        blocks,
-        slots,
-        |block, slot| slot_answer(s, block, slot),
-    )
-}
-
-// Puts the positions of the slots' offsets into the words from `room` on.
+// Puts the positions of the slots' offsets into as many words. With the slots by `zip` the proof did not close: nothing is known of what is
+// written through an adapter of `iter_mut`.
 #[tactic(auto, using(crate::proofs::Offsets::gathering))]
-fn gather_offsets(s: &[u8], index: &mut [u32], slots: Table, room: usize)
-    requires { Room s.now index.old slots.from slots.to room }
-    ensures { index.new ≡ sets index.old room (map (past block_key s.now) (span index.old slots.from slots.to)) }
+fn gather_offsets(s: &[u8], slots: &[u32], offsets: &mut [u32])
+    requires { (length slots.now ≡ length offsets.old) × (length s.now < 2 ^ 32) }
+    ensures { offsets.new ≡ map (past block_key s.now) slots.now }
 {
-    for i in slots.from..slots.to {
-        index[room + (i - slots.from)] = block_key_end(s, word_at(index, i)) as u32;
+    offsets.copy_from_slice(slots);
+    for at in offsets.iter_mut() {
+        *at = block_key_end(s, *at as usize) as u32;
     }
 }
 
+// Where a slot ends whose offset stands at a position, if it starts where it is expected.
+fn end_of(s: &[u8], expected: u64, at: usize) -> Option<u64>
+    ensures { result ≡ end_of expected (words_at s.now at) }
+{
+    let (offset, length) = words_at(s, at);
+    if offset != expected {
+        return None;
+    }
+    offset.checked_add(length)
+}
+
 // Does each of the slots whose offsets stand at these positions start where the one before it ends, the first at 0?
-#[tactic(auto, using(crate::proofs::Offsets::chain))]
 fn slots_join(s: &[u8], offsets: &[u32]) -> bool
     requires { All (λ p. Ends (words_at s.now p)) offsets.now }
     ensures { result ≡ join_from 0 (map (words_at s.now) offsets.now) }
 {
-    let mut expected = 0;
-    for at in offsets {
-        let at = *at as usize;
-        let offset = number_at(s, at);
-        if offset != expected {
-            return false;
-        }
-        expected = offset + number_at(s, ahead(s, at, 8));
-    }
-    true
+    offsets
+        .iter()
+        .try_fold(0, |expected, at| end_of(s, expected, *at as usize))
+        .is_some()
 }
 
-// Question 24: sorted by offset, the slots start at 0 and join. The words from `room` on are scratch, two for each slot.
-#[tactic(auto, using(crate::proofs::Offsets::sorted))]
-fn slots_cover(s: &[u8], index: &mut [u32], slots: Table, room: usize) -> bool
-    requires room { Room s.now index.old slots.from slots.to room }
-    requires all { All (λ p. Held (slot_at s.now p)) (span index.old slots.from slots.to) }
-    ensures value { result ≡ join_from 0 (by_offset (map (λ p. words (slot_at s.now p)) (span index.old slots.from slots.to))) }
-    ensures kept { Kept room (room + (slots.to - slots.from) + (slots.to - slots.from)) index.old index.new }
+// Question 24: sorted by offset, the slots start at 0 and join. One word of the room for each slot is scratch.
+fn slots_cover(s: &[u8], slots: &[u32], room: &mut [u32]) -> bool
+    requires room { (length slots.now ≤ length room.old) × (length s.now < 2 ^ 32) }
+    requires all { All (λ p. Held (slot_at s.now p)) slots.now }
+    ensures { result ≡ join_from 0 (by_offset (map (λ p. words (slot_at s.now p)) slots.now)) }
 {
-    let count = slots.to - slots.from;
-    gather_offsets(s, index, slots, room);
-    sort(s, SortKey::Number, index, room, count);
-    slots_join(s, &index[room..room + count])
+    let offsets = &mut room[..slots.len()];
+    gather_offsets(s, slots, offsets);
+    words::sort(s, SortKey::Number, offsets);
+    slots_join(s, offsets)
 }
 
-// Questions 21 to 24, after 11 to 16 said yes.
+// Questions 21 to 24, after 11 to 16 said yes. All slots are asked 21 before the first is asked 22, so there are two walks.
 #[tactic(auto, using(crate::proofs::Whole::asked))]
 pub fn validate_slots(s: &[u8], index: &mut [u32]) -> Result<(), Question>
     requires tabled { Tabled s.now index.old }
@@ -184,12 +159,13 @@ pub fn validate_slots(s: &[u8], index: &mut [u32]) -> Result<(), Question>
     ensures value { result ≡ said (first (slots (manifest_of s.now))) }
     ensures leaves { Leaves s.now index.old index.new }
 {
-    let blocks = table_at(s, index, Section::BLOCKS);
-    let slots = table_at(s, index, Section::STATE_SLOTS);
-    slot_keys_are(s, index, blocks, slots)?;
-    slot_answers(s, index, blocks, slots)?;
-    let room = table_start(s, index, 13);
-    if !slots_cover(s, index, slots, room) {
+    let end = room_start(s, index);
+    let (tables, room) = index.split_at_mut(end);
+    let blocks = table_of(s, tables, Section::BLOCKS);
+    let slots = table_of(s, tables, Section::STATE_SLOTS);
+    for_pairs(s, blocks, slots, key_answer)?;
+    for_pairs(s, blocks, slots, slot_answer)?;
+    if !slots_cover(s, slots, room) {
         return Err(Question(24));
     }
     Ok(())

@@ -1,7 +1,7 @@
-use Rattle.state_slots.proofs.Offsets.{Gathering}
-use Rattle.format.specs.Places.{past}
 use Rattle.format.specs.Keys.{block_key}
+use Rattle.format.specs.Places.{past}
+use Rattle.state_slots.proofs.Offsets.{Gathering}
 use Rattle.state_slots.proofs.gather_offsets.Given as goal
 
-abbrev pub invariant-loop-i : goal.invariant-loop-i
-invariant-loop-i l = Gathering (past block_key l.s) l.initial.index l.fn.slots.from l.fn.slots.to l.room l.index l.i
+abbrev pub invariant-loop-at : goal.invariant-loop-at
+invariant-loop-at l = Gathering (past block_key l.s) l.slots l.offsets l.at-index

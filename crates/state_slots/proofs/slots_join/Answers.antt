@@ -1,7 +1,7 @@
-use Rattle.state_slots.proofs.Offsets.{chain-on}
-use native.Mathlib.Omega.{arith}
+use mathlib.Core.Path.{◌∙◌}
+use Rattle.std.proofs.Common.{rules}
+use Rattle.state_slots.proofs.Offsets.{joins}
 use Rattle.state_slots.proofs.slots_join.Goals as goal
 
-pub loop-at-preserved : goal.loop-at-preserved
-loop-at-preserved c =
-    chain-on c.loop-at.invariant c.loop-at-test.true c.number_at-offset.ensures c.ahead.ensures c.number_at.ensures (omega arith)
+pub returns : goal.returns
+returns c = c.is_some.ensures ∙ joins c.args.s.now _ _ _ (λ n x v q k. search rules) _ _ c.args.offsets.now c.try_fold.result c.try_fold.ensures.ran c.iter.ensures.rest c.requires

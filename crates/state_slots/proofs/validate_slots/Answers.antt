@@ -1,11 +1,8 @@
 use Rattle.std.proofs.Common.{rules}
-use Rattle.state_slots.proofs.Whole.{asked-24, all_asked}
+use Rattle.state_layout.proofs.Indexed.{laid_front}
+use Rattle.state_slots.proofs.Whole.{cover-held}
 use Rattle.state_slots.proofs.validate_slots.Goals as goal
 
-pub returns-then-not-slots_cover-clause-value : goal.returns-then-not-slots_cover-clause-value
-returns-then-not-slots_cover-clause-value c =
-    asked-24 c.requires.tabled c.table_at-blocks.ensures c.table_at-slots.ensures c.slot_keys_are.ensures c.in_ok-slot_keys_are.was c.slot_answers.ensures c.in_ok-slot_answers.was c.slots_cover.ensures.value (search rules)
-
-pub returns-clause-value : goal.returns-clause-value
-returns-clause-value c =
-    all_asked c.requires.tabled c.table_at-blocks.ensures c.table_at-slots.ensures c.slot_keys_are.ensures c.in_ok-slot_keys_are.was c.slot_answers.ensures c.in_ok-slot_answers.was c.slots_cover.ensures.value (search rules)
+pub slots_cover-requires-clause-all : goal.slots_cover-requires-clause-all
+slots_cover-requires-clause-all c =
+    cover-held (search (rules, laid_front)) c.table_of-blocks.ensures c.table_of-slots.ensures c.for_pairs.ensures c.in_ok-for_pairs.was c.for_pairs-2.ensures c.in_ok-for_pairs-2.was c.requires.declared
