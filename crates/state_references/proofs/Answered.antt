@@ -1,14 +1,17 @@
 -- The questions, from what the functions answer of the tables.
-use Prim.Native.Nat.{ℕ, ◌+◌, ◌≤◌}
+use Prim.Native.Nat.{ℕ, zero, suc, ◌+◌, ◌≤◌}
 use native.Mathlib.Omega.{arith}
-use mathlib.Core.Path.{◌≡◌, sym, ap, ◌∙◌}
+use mathlib.Core.Path.{◌≡◌, refl, sym, ap, ◌∙◌}
 use mathlib.Core.Bool.{Bool, true, false, ◌&&◌, and_assoc}
-use mathlib.Core.List.{List, map}
+use mathlib.Core.List.{List, [], ◌∷◌, map}
 use lib.ListN.{length}
 use Rattle.format.specs.Lists.{all_different}
 use Rattle.format.specs.Manifest.{numbered}
 use Rattle.format.specs.Fields.{blocks_of, connectors_of, connections_of, schedule_of, connector_order_of, drivers_of, external_inputs_of, boundary_outputs_of, output_name, output_source}
-use Rattle.questions.specs.Sets.{all, all_in, each_once}
+use Rattle.questions.specs.Sets.{all, all_in, each_once, ◌unless◌, first}
+use Rattle.std.specs.Prelude.{Result, Ok, Err}
+use Rattle.state.specs.Outcome.{said}
+use Rattle.state.specs.declared.Question.{Question}
 use Rattle.questions.specs.Declarations.{connector_names}
 use Rattle.questions.specs.References.{is_directed, joins, drives, schedule_holds, order_holds, externals_hold, outputs_hold}
 use Rattle.state_index.specs.Keys.{text_at}
@@ -48,12 +51,20 @@ module _ {s tables : List ℕ} (t : Laid s tables) where
   connectors_long = omega (arith, table_long t 4 (omega arith), (rows (manifest_of s)).connectors)
 
   -- of direction in; then known and different
-  pub externals_answer : externals_hold (external_inputs_of (manifest_of s)) (connectors_of (manifest_of s))
+  externals-are : externals_hold (external_inputs_of (manifest_of s)) (connectors_of (manifest_of s))
       ≡ (all (of_way s 0) (table_of 10 s tables) && (all_in (keys_listed 4 10 s tables) (keys_listed 4 4 s tables) && all_different (keys_listed 4 10 s tables)))
   unfolding numbered externals_hold
-  externals_answer =
+  externals-are =
       rw (← all-external-is t.bytes known (table-externals t), ← keys-externals t.bytes (table-externals t), names-connectors t.bytes (table-connectors t))
       (and_assoc (all (of_way s 0) (table_of 10 s tables)) (all_in (keys_listed 4 10 s tables) known) (all_different (keys_listed 4 10 s tables)))
+
+  pub externals_other : {r : Bool} → r ≡ all (of_way s 0) (table_of 10 s tables) → r ≡ false → r ≡ externals_hold (external_inputs_of (manifest_of s)) (connectors_of (manifest_of s))
+  externals_other i n = sym (externals-are ∙ rw (← i, n))
+
+  pub externals_answer : {r : Bool} → true ≡ all (of_way s 0) (table_of 10 s tables)
+      → r ≡ (all_in (keys_listed 4 10 s tables) (keys_listed 4 4 s tables) && all_different (keys_listed 4 10 s tables))
+      → r ≡ externals_hold (external_inputs_of (manifest_of s)) (connectors_of (manifest_of s))
+  externals_answer y e = e ∙ sym (externals-are ∙ rw (← y))
 
   pub sources_answer : all (source_at s (names_of s (table_of 4 s tables))) (table_of 11 s tables) ≡ all (λ o. is_directed known 1 (output_source o)) (boundary_outputs_of (manifest_of s))
   sources_answer = rw names-known (all-output-is t.bytes known (table-outputs t))
@@ -62,11 +73,31 @@ module _ {s tables : List ℕ} (t : Laid s tables) where
   names_answer = ap all_different (names-outputs (table-outputs t))
 
   -- ---- the room is long enough
-  pub room_blocks : (room : List ℕ) → Roomy s room → length (table_of 3 s tables) ≤ length room
-  room_blocks room h = let r = rows (manifest_of s) in omega (arith, table_long t 3 (omega arith))
-
-  pub room_connectors : (room : List ℕ) → Roomy s room → length (table_of 4 s tables) ≤ length room
-  room_connectors room h = omega (arith, connectors_long)
+  -- for marks of a section whose keys ascend
+  pub room_marks : (k : ℕ) (room : List ℕ) → 2 ≤ k → k ≤ 4 → Roomy s room → length (table_of k s tables) ≤ length room
+  room_marks k room h l r = by-case k h l
+    where
+      by-case : (k : ℕ) → 2 ≤ k → k ≤ 4 → length (table_of k s tables) ≤ length room
+      by-case zero h l = absurd (omega arith)
+      by-case (suc zero) h l = absurd (omega arith)
+      by-case (suc (suc zero)) h l = let m = rows (manifest_of s) in omega (arith, table_long t 2 (omega arith))
+      by-case (suc (suc (suc zero))) h l = let m = rows (manifest_of s) in omega (arith, table_long t 3 (omega arith))
+      by-case (suc (suc (suc (suc zero)))) h l = let m = rows (manifest_of s) in omega (arith, table_long t 4 (omega arith))
+      by-case (suc (suc (suc (suc (suc k))))) h l = absurd (omega arith)
 
   pub room_names : (room : List ℕ) → Roomy s room → length (table_of 11 s tables) + length (table_of 11 s tables) ≤ length room
   room_names room h = let r = rows (manifest_of s) in omega (arith, table_long t 11 (omega arith))
+
+-- ---- one question after another
+module _ (q : ℕ) (qs : List ℕ) {b : Bool} where
+  pub no_first : b ≡ false → Err (record { 0 = suc q }) ≡ said (first ((suc q unless b) ∷ qs))
+  unfolding first ◌unless◌
+  no_first e = rw e
+
+  pub yes_first : {r : Result Unit Question} → b ≡ true → r ≡ said (first qs) → r ≡ said (first ((q unless b) ∷ qs))
+  unfolding first ◌unless◌
+  yes_first e i = rw e i
+
+pub yes_all : Ok tt ≡ said (first [])
+unfolding first
+yes_all = refl

@@ -59,9 +59,10 @@ fn drivers_hold(s: &[u8], tables: &[u32], room: &[u32]) -> bool
 
 // Are the keys that a section lists known, as those of section SECTION, and all different? The marks stand in front in the room, as the hints
 // are at its end.
+#[tactic(auto, using(crate::proofs::Answered::room_marks))]
 fn all_listed_new<const SECTION: u8>(s: &[u8], tables: &[u32], room: &mut [u32], listed: u8) -> bool
     requires laid { Laid s.now tables.now }
-    requires fits { length (table_of SECTION s.now tables.now) ≤ length room.old }
+    requires roomy { Roomy s.now room.old }
     requires section { (2 ≤ SECTION) × (SECTION ≤ 4) }
     requires listed_bound { listed ≤ 12 }
     ensures { result ≡ (all_in (keys_listed SECTION listed s.now tables.now) (keys_listed SECTION SECTION s.now tables.now) && all_different (keys_listed SECTION listed s.now tables.now)) }
@@ -72,6 +73,7 @@ fn all_listed_new<const SECTION: u8>(s: &[u8], tables: &[u32], room: &mut [u32],
 }
 
 // Are they that section's keys, each once?
+#[tactic(auto, using(crate::proofs::Answered::room_marks))]
 fn require_exact_set<const SECTION: u8>(
     s: &[u8],
     tables: &[u32],
@@ -79,7 +81,7 @@ fn require_exact_set<const SECTION: u8>(
     listed: u8,
 ) -> bool
     requires laid { Laid s.now tables.now }
-    requires fits { length (table_of SECTION s.now tables.now) ≤ length room.old }
+    requires roomy { Roomy s.now room.old }
     requires section { (2 ≤ SECTION) × (SECTION ≤ 4) }
     requires listed_bound { listed ≤ 12 }
     ensures { result ≡ each_once (keys_listed SECTION listed s.now tables.now) (keys_listed SECTION SECTION s.now tables.now) }
@@ -90,6 +92,7 @@ fn require_exact_set<const SECTION: u8>(
 }
 
 // Questions 17 to 20.
+#[tactic(auto, using(crate::proofs::Answered::schedule_answer, crate::proofs::Answered::order_answer, crate::proofs::Answered::no_first, crate::proofs::Answered::yes_first, crate::proofs::Answered::yes_all), unfolding(questions::specs::References::references))]
 fn ask_references(s: &[u8], tables: &[u32], room: &mut [u32]) -> Result<(), Question>
     requires laid { Laid s.now tables.now }
     requires roomy { Roomy s.now room.old }
@@ -180,6 +183,7 @@ fn names_differ(s: &[u8], tables: &[u32], room: &mut [u32]) -> bool
 }
 
 // Question 25.
+#[tactic(auto, using(crate::proofs::Answered::externals_answer, crate::proofs::Answered::externals_other))]
 fn externals_hold(s: &[u8], tables: &[u32], room: &mut [u32]) -> bool
     requires laid { Laid s.now tables.now }
     requires roomy { Roomy s.now room.old }
@@ -200,6 +204,7 @@ fn outputs_hold(s: &[u8], tables: &[u32], room: &mut [u32]) -> bool
 }
 
 // Questions 25 and 26.
+#[tactic(auto, using(crate::proofs::Answered::no_first, crate::proofs::Answered::yes_first, crate::proofs::Answered::yes_all), unfolding(questions::specs::References::boundaries))]
 fn ask_boundaries(s: &[u8], tables: &[u32], room: &mut [u32]) -> Result<(), Question>
     requires laid { Laid s.now tables.now }
     requires roomy { Roomy s.now room.old }
