@@ -13,9 +13,9 @@ use Rattle.std.specs.Prelude.{Result, Ok, Err}
 use Rattle.state.specs.Outcome.{said}
 use Rattle.state.specs.declared.Question.{Question}
 use Rattle.questions.specs.Declarations.{connector_names}
-use Rattle.questions.specs.References.{is_directed, joins, drives, schedule_holds, order_holds, externals_hold, outputs_hold}
+use Rattle.questions.specs.References.{is_directed, joins, drives, schedule_holds, order_holds, externals_hold}
 use Rattle.state_index.specs.Keys.{text_at}
-use Rattle.state_layout.specs.Tables.{manifest_of, table_start, table_of, Laid}
+use Rattle.state_layout.specs.Tables.{manifest_of, table_of, Laid}
 use Rattle.state_layout.proofs.Indexed.{rows, table_long, table-blocks, table-connectors, table-connections, table-schedule, table-order, table-drivers, table-externals, table-outputs}
 use Rattle.state_layout.proofs.Names.{names-blocks, names-connectors}
 use Rattle.state_references.specs.Known.{names_of, of_way, joins_at, drives_at, source_at}

@@ -1,9 +1,8 @@
 -- Keys met one after the other, each marked: what stops, and what is marked at the end.
 use Prim.Native.Nat.{ℕ, ◌+◌, ◌≤◌, ◌<◌}
-use native.Mathlib.Omega.{arith}
 use mathlib.Core.Path.{◌≡◌, refl, sym, ap, ◌∙◌}
 use mathlib.Core.Bool.{Bool, true, false, not, ◌&&◌, ◌||◌, and-true, or-true, or-false}
-use mathlib.Core.List.{List, [], ◌∷◌, map}
+use mathlib.Core.List.{List, [], ◌∷◌}
 use lib.ListN.{length, get_or, drop, replicate, length-map, drop_of_length-le}
 use lib.Seq.{drop-cons}
 use Rattle.std.proofs.Common.{add-one}

@@ -1,10 +1,10 @@
 -- What is asked of entries one by one: what a search for a key tells, and a walk over the entries, from each to the next.
 use Prim.Native.Nat.{ℕ, ◌<◌}
 use native.Mathlib.Omega.{arith}
-use mathlib.Core.Path.{◌≡◌, refl, sym, ap, subst, ◌∙◌}
-use mathlib.Core.Bool.{Bool, true, false, ◌&&◌}
+use mathlib.Core.Path.{◌≡◌, sym, ap, subst}
+use mathlib.Core.Bool.{Bool, true, false}
 use mathlib.Core.List.{List, [], ◌∷◌}
-use lib.ListN.{length, get_or, length-map}
+use lib.ListN.{length, length-map}
 use denote.Param.Members.{Mut}
 use Rattle.std.specs.Prelude.{Option, Some, None, is_some}
 use Rattle.std.specs.Fn.{Called}
@@ -12,8 +12,7 @@ use Rattle.std.specs.Iterator.{Yields, YieldsThen, AlwaysYields}
 use Rattle.std.specs.List.{FoldsTo}
 use Rattle.std.specs.Option.{MatchOption}
 use Rattle.std.proofs.lemmas.Iterator.{YieldsList}
-use Rattle.format.specs.Lists.{is_in}
-use Rattle.format.specs.Manifest.{Section, connectors}
+use Rattle.format.specs.Manifest.{connectors}
 use Rattle.format.specs.Places.{key_at}
 use Rattle.questions.specs.Sets.{all}
 use Rattle.state_index.specs.Words.{Found}

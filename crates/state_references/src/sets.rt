@@ -22,6 +22,7 @@ pub(crate) fn all_new<const SECTION: u8>(
     ensures marked { result ≡ true → all is_set marks.new ≡ all_in (keys_of (numbered SECTION) keys.entry.s.now keys.entry.words.now) (keys_of (numbered SECTION) keys.entry.s.now listed.now) }
 {
     marks.fill(0);
+    // Not a `try_fold` as in lib.rt: of marks that a closure changes nothing is known behind it.
     let mut hint = 0;
     for word in listed {
         let key = key_part(keys.s, SECTION, *word as usize);

@@ -2,7 +2,6 @@ use mathlib.Core.Path.{◌∙◌}
 use Rattle.std.proofs.Common.{rules, ◌≡◌, true, false}
 use Rattle.std.proofs.lemmas.Iterator.{cases_from_all, YieldsList-from_slice}
 use borrow.Author.Tests.{tests}
-use Rattle.questions.specs.Sets.{all}
 use Rattle.state_layout.proofs.Every.{every}
 use Rattle.state_references.specs.Known.{of_way}
 use Rattle.state_references.proofs.inputs_directed.Goals as goal
