@@ -27,11 +27,11 @@ module _ {s tables : List ℕ} (t : Laid s tables) where
   abbrev known : List (List ℕ)
   known = connector_names (connectors_of (manifest_of s))
 
-  names-known : names_of s (table_of 4 s tables) ≡ known
+  pub names-known : names_of s (table_of 4 s tables) ≡ known
   names-known = names-connectors t.bytes (table-connectors t)
 
-  pub connections_answer : all (joins_at s (names_of s (table_of 4 s tables))) (table_of 5 s tables) ≡ all (joins known) (connections_of (manifest_of s))
-  connections_answer = rw names-known (all-join-is t.bytes known (table-connections t))
+  pub connections_answer : all (joins_at s known) (table_of 5 s tables) ≡ all (joins known) (connections_of (manifest_of s))
+  connections_answer = all-join-is t.bytes known (table-connections t)
 
   pub schedule_answer : each_once (keys_listed 3 6 s tables) (keys_listed 3 3 s tables) ≡ schedule_holds (schedule_of (manifest_of s)) (blocks_of (manifest_of s))
   unfolding numbered schedule_holds
@@ -41,8 +41,8 @@ module _ {s tables : List ℕ} (t : Laid s tables) where
   unfolding numbered order_holds
   order_answer = rw (keys-order t.bytes (table-order t), names-connectors t.bytes (table-connectors t))
 
-  pub drivers_answer : all (drives_at s (names_of s (table_of 4 s tables))) (table_of 8 s tables) ≡ all (drives known) (drivers_of (manifest_of s))
-  drivers_answer = rw names-known (all-drive-is t.bytes known (table-drivers t))
+  pub drivers_answer : all (drives_at s known) (table_of 8 s tables) ≡ all (drives known) (drivers_of (manifest_of s))
+  drivers_answer = all-drive-is t.bytes known (table-drivers t)
 
   pub drivers_long : length (table_of 8 s tables) ≡ length (drivers_of (manifest_of s))
   drivers_long = omega (arith, table_long t 8 (omega arith), (rows (manifest_of s)).drivers)
@@ -66,8 +66,8 @@ module _ {s tables : List ℕ} (t : Laid s tables) where
       → r ≡ externals_hold (external_inputs_of (manifest_of s)) (connectors_of (manifest_of s))
   externals_answer y e = e ∙ sym (externals-are ∙ rw (← y))
 
-  pub sources_answer : all (source_at s (names_of s (table_of 4 s tables))) (table_of 11 s tables) ≡ all (λ o. is_directed known 1 (output_source o)) (boundary_outputs_of (manifest_of s))
-  sources_answer = rw names-known (all-output-is t.bytes known (table-outputs t))
+  pub sources_answer : all (source_at s known) (table_of 11 s tables) ≡ all (λ o. is_directed known 1 (output_source o)) (boundary_outputs_of (manifest_of s))
+  sources_answer = all-output-is t.bytes known (table-outputs t)
 
   pub names_answer : all_different (map (text_at s) (table_of 11 s tables)) ≡ all_different (map output_name (boundary_outputs_of (manifest_of s)))
   names_answer = ap all_different (names-outputs (table-outputs t))

@@ -4,7 +4,7 @@
 mod entries;
 mod sets;
 
-ghost use Rattle.std.specs.Prelude.{◌≡◌, map, ◌&&◌, ◌≤◌, length};
+ghost use Rattle.std.specs.Prelude.{◌≡◌, map, ◌&&◌, ◌≤◌, ℕ, Bool, List, is_some};
 ghost use Rattle.state.specs.Outcome.{said};
 ghost use Rattle.format.specs.Lists.{all_different};
 ghost use Rattle.format.specs.Fields.{connectors_of, connections_of, drivers_of, boundary_outputs_of, external_inputs_of, output_name, output_source};
@@ -12,7 +12,7 @@ ghost use Rattle.questions.specs.Sets.{all, all_in, each_once, first};
 ghost use Rattle.questions.specs.Declarations.{connector_names};
 ghost use Rattle.questions.specs.References.{joins, drives, drivers_hold, is_directed, externals_hold, outputs_hold, references, boundaries};
 ghost use Rattle.state_layout.specs.Tables.{manifest_of, table_of, Laid, Tabled, Leaves};
-ghost use Rattle.state_references.specs.Known.{of_way};
+ghost use Rattle.state_references.specs.Known.{names_of, of_way};
 ghost use Rattle.state_references.specs.Rooms.{Roomy, keys_listed};
 
 use entries::{drives, has_source, is_of_way, joins, same_key};
@@ -22,39 +22,38 @@ use state_layout::hints::fill_hints;
 use state_layout::keys::{Connectors, all_marked, keys_of};
 use state_layout::{room_start, table_of};
 
-// Question 17.
-fn connections_hold(s: &[u8], tables: &[u32], room: &[u32]) -> bool
+// Whether what is asked of an entry by itself holds of each of a section's. It is given the place to try first: the one that the entry before
+// it answered.
+fn entries_hold<F: Fn(Connectors, usize, usize) -> Option<usize>>(
+    s: &[u8],
+    tables: &[u32],
+    room: &[u32],
+    section: u8,
+    holds: F,
+) -> bool
+    ghost test: { List ℕ → List (List ℕ) → ℕ → Bool }
     requires laid { Laid s.now tables.now }
-    ensures { result ≡ all (joins (connector_names (connectors_of (manifest_of s.now)))) (connections_of (manifest_of s.now)) }
+    requires section_bound { section ≤ 12 }
+    requires callable { F.IsAlwaysCallable holds }
+    requires tells { (known : _) (p hint : ℕ) (f : _) → F.post holds known p hint f → is_some f ≡ test known.s.now (names_of known.s.now known.words.now) p }
+    ensures { result ≡ all (test s.now (connector_names (connectors_of (manifest_of s.now)))) (table_of section s.now tables.now) }
 {
     let known: Connectors = keys_of(s, tables, room);
-    table_of(s, tables, Section::CONNECTIONS)
+    table_of(s, tables, section)
         .iter()
-        .try_fold(0, |hint, word| joins(known, *word as usize, hint))
-        .is_some()
-}
-
-// Question 20 of the drivers one by one.
-fn drivers_known(s: &[u8], tables: &[u32], room: &[u32]) -> bool
-    requires laid { Laid s.now tables.now }
-    ensures { result ≡ all (drives (connector_names (connectors_of (manifest_of s.now)))) (drivers_of (manifest_of s.now)) }
-{
-    let known: Connectors = keys_of(s, tables, room);
-    table_of(s, tables, Section::DRIVER_OF)
-        .iter()
-        .try_fold(0, |hint, word| drives(known, *word as usize, hint))
+        .try_fold(0, |hint, word| holds(known, *word as usize, hint))
         .is_some()
 }
 
 // Question 20: as many drivers as connectors, and their keys known.
-#[tactic(auto, using(crate::proofs::Answered::drivers_long, crate::proofs::Answered::connectors_long), unfolding(questions::specs::References::drivers_hold))]
+#[tactic(auto, using(crate::proofs::Answered::drivers_answer, crate::proofs::Answered::drivers_long, crate::proofs::Answered::connectors_long), unfolding(questions::specs::References::drivers_hold))]
 fn drivers_hold(s: &[u8], tables: &[u32], room: &[u32]) -> bool
     requires laid { Laid s.now tables.now }
     ensures { result ≡ drivers_hold (drivers_of (manifest_of s.now)) (connectors_of (manifest_of s.now)) }
 {
     let drivers = table_of(s, tables, Section::DRIVER_OF);
     let connectors = table_of(s, tables, Section::CONNECTORS);
-    drivers.len() == connectors.len() && drivers_known(s, tables, room)
+    drivers.len() == connectors.len() && entries_hold(s, tables, room, Section::DRIVER_OF, drives)
 }
 
 // Are the keys that a section lists known, as those of section SECTION, and all different? The marks stand in front in the room, as the hints
@@ -92,13 +91,13 @@ fn require_exact_set<const SECTION: u8>(
 }
 
 // Questions 17 to 20.
-#[tactic(auto, using(crate::proofs::Answered::schedule_answer, crate::proofs::Answered::order_answer, crate::proofs::Answered::no_first, crate::proofs::Answered::yes_first, crate::proofs::Answered::yes_all), unfolding(questions::specs::References::references))]
+#[tactic(auto, using(crate::proofs::Answered::connections_answer, crate::proofs::Answered::schedule_answer, crate::proofs::Answered::order_answer, crate::proofs::Answered::no_first, crate::proofs::Answered::yes_first, crate::proofs::Answered::yes_all), unfolding(questions::specs::References::references))]
 fn ask_references(s: &[u8], tables: &[u32], room: &mut [u32]) -> Result<(), Question>
     requires laid { Laid s.now tables.now }
     requires roomy { Roomy s.now room.old }
     ensures { result ≡ said (first (references (manifest_of s.now))) }
 {
-    if !connections_hold(s, tables, room) {
+    if !entries_hold(s, tables, room, Section::CONNECTIONS, joins) {
         return Err(Question(17));
     }
     if !require_exact_set::<{ Section::BLOCKS }>(s, tables, room, Section::SCHEDULE) {
@@ -160,18 +159,6 @@ fn inputs_directed(s: &[u8], tables: &[u32]) -> bool
         .all(|word| is_of_way(s, WireDir::IN, *word as usize))
 }
 
-// Question 26 of the boundary outputs one by one.
-fn sources_hold(s: &[u8], tables: &[u32], room: &[u32]) -> bool
-    requires laid { Laid s.now tables.now }
-    ensures { result ≡ all (λ o. is_directed (connector_names (connectors_of (manifest_of s.now))) 1 (output_source o)) (boundary_outputs_of (manifest_of s.now)) }
-{
-    let known: Connectors = keys_of(s, tables, room);
-    table_of(s, tables, Section::BOUNDARY_OUTPUTS)
-        .iter()
-        .try_fold(0, |hint, word| has_source(known, *word as usize, hint))
-        .is_some()
-}
-
 // Are the names of the boundary outputs, with which they start, all different?
 #[tactic(auto, using(crate::proofs::Answered::names_answer, crate::proofs::Answered::room_names))]
 fn names_differ(s: &[u8], tables: &[u32], room: &mut [u32]) -> bool
@@ -194,13 +181,14 @@ fn externals_hold(s: &[u8], tables: &[u32], room: &mut [u32]) -> bool
 }
 
 // Question 26.
-#[tactic(auto, unfolding(questions::specs::References::outputs_hold))]
+#[tactic(auto, using(crate::proofs::Answered::sources_answer), unfolding(questions::specs::References::outputs_hold))]
 fn outputs_hold(s: &[u8], tables: &[u32], room: &mut [u32]) -> bool
     requires laid { Laid s.now tables.now }
     requires roomy { Roomy s.now room.old }
     ensures { result ≡ outputs_hold (boundary_outputs_of (manifest_of s.now)) (connectors_of (manifest_of s.now)) }
 {
-    sources_hold(s, tables, room) && names_differ(s, tables, room)
+    entries_hold(s, tables, room, Section::BOUNDARY_OUTPUTS, has_source)
+        && names_differ(s, tables, room)
 }
 
 // Questions 25 and 26.
