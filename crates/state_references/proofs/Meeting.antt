@@ -1,24 +1,20 @@
 -- Keys met one after the other, each marked: what stops, and what is marked at the end.
-use Prim.Native.Nat.{ℕ, ◌+◌, ◌-◌, ◌≤◌, ◌<◌}
-use native.Mathlib.Omega.{arith}
+use Prim.Native.Nat.{ℕ, ◌+◌, ◌≤◌, ◌<◌}
 use mathlib.Core.Path.{◌≡◌, refl, sym, ap, ◌∙◌}
-use mathlib.Core.Bool.{Bool, true, false, not, ◌&&◌, ◌||◌, and-true, or-true, or-false, false≢true}
-use mathlib.Core.List.{List, [], ◌∷◌, map}
-use lib.ListN.{length, get_or}
-use Rattle.std.specs.Prelude.{Option, Some, None}
-use Rattle.state.specs.Bytes.{span}
-use Rattle.state.proofs.Bytes.{span-cons, span_none}
+use mathlib.Core.Bool.{Bool, true, false, not, ◌&&◌, ◌||◌, and-true, or-true, or-false}
+use mathlib.Core.List.{List, [], ◌∷◌}
+use lib.ListN.{length, get_or, drop, replicate, length-map, drop_of_length-le}
+use lib.Seq.{drop-cons}
+use Rattle.std.proofs.Common.{add-one}
+use Rattle.std.specs.Prelude.{Option, Some, None, is_some}
 use Rattle.format.specs.Lists.{same, is_in, all_different}
 use Rattle.format.specs.Manifest.{Section}
 use Rattle.format.specs.Places.{key_at}
 use Rattle.format.proofs.Lists.{same-sym}
 use Rattle.questions.specs.Sets.{all, all_in, same_set, each_once}
-use Rattle.state_index.specs.Sort.{Kept}
-use Rattle.state_index.proofs.Lists.{filled}
-use Rattle.state_layout.specs.Marks.{is_set, keys_at, Keyed, Marked, MarksNew}
-use Rattle.state_layout.proofs.Kept.{kept_refl, kept_trans, span-kept}
-use Rattle.state_layout.proofs.Marked.{cleared-kept, marked_all}
-use Rattle.state_references.specs.Met.{MarksAll}
+use Rattle.state_layout.specs.Marks.{is_set, marks_of}
+use Rattle.state_layout.specs.Keys.{keys_of, MetNew}
+use Rattle.state_layout.proofs.Marked.{marks-none, all_set}
 
 -- ---- plain lists
 -- each key is known and was not met before
@@ -96,107 +92,66 @@ unfolding all_in all is_in
 all-met [] ks = refl
 all-met (k ∷ names) ks = rw (in-met k [] ks, all-met names ks)
 
--- ---- keys at the words of an index
--- the loop over the words first..last, at the word i: the keys before it were met, and are marked
-pub record Meets (e : Section) (s old : List ℕ) (first last from to marks : ℕ) (new : List ℕ) (i : ℕ) : Type 0 where
+-- ---- keys at words
+-- the walk over the words, at place i: the keys before it were met, and are marked
+pub record Meets (e : Section) (s words listed marks : List ℕ) (i : ℕ) : Type 0 where
   pub seen : List (List ℕ)
-  pub marked : Marked e s new from to marks seen
-  pub kept : Kept marks (marks + (to - from)) old new
-  pub inside : last ≤ marks
-  pub below : to ≤ marks
-  pub answer : new_each (keys_at e s old from to) seen (keys_at e s old i last) ≡ new_each (keys_at e s old from to) [] (keys_at e s old first last)
-  pub ends : met seen (keys_at e s old i last) ≡ met [] (keys_at e s old first last)
+  pub marked : marks ≡ marks_of seen (keys_of e s words)
+  pub answer : new_each (keys_of e s words) seen (keys_of e s (drop i listed)) ≡ new_each (keys_of e s words) [] (keys_of e s listed)
+  pub ends : met seen (keys_of e s (drop i listed)) ≡ met [] (keys_of e s listed)
 
-module _ {e : Section} {s old : List ℕ} {first last from to marks : ℕ} where
-  pub meets-start : Marked e s old from to marks [] → last ≤ marks → Meets e s old first last from to marks old first
-  meets-start m h = record {
+module _ {e : Section} {s words listed : List ℕ} where
+  pub meets_start : {n : ℕ} → n ≡ length words → Meets e s words listed (replicate n 0) 0
+  meets_start h = record {
     seen = [];
-    marked = m;
-    kept = kept_refl marks (marks + (to - from)) old;
-    inside = h;
-    below = m.keyed.below;
+    marked = rw (h, ← length-map words (key_at e s)) (sym (marks-none (keys_of e s words)));
     answer = refl;
     ends = refl;
   }
 
-  module _ {new : List ℕ} {i : ℕ} (m : Meets e s old first last from to marks new i) where
-    names-kept : keys_at e s new from to ≡ keys_at e s old from to
-    names-kept = ap (map (key_at e s)) (span-kept m.kept from to m.below)
+  module _ {marks : List ℕ} {i : ℕ} (m : Meets e s words listed marks i) where
+    module _ (h : i < length listed) {key : List ℕ} (b : key ≡ key_at e s (get_or listed i 0)) {f : Option ℕ} {after : List ℕ} (r : MetNew e s words key f marks after) where
+      next-key : keys_of e s (drop i listed) ≡ key ∷ keys_of e s (drop (i + 1) listed)
+      next-key = rw (add-one, drop-cons listed i 0 h, b)
 
-    pub meets-fits : last ≤ length new
-    meets-fits = omega (arith, m.inside, m.marked.keyed.fits)
+      told : is_some f ≡ (is_in key (keys_of e s words) && not (is_in key m.seen))
+      told = r.answer m.seen m.marked
 
-    module _ (h : i < last) {p : ℕ} {key : List ℕ} {f : Option ℕ} {after : List ℕ} (a : p ≡ get_or new i 0) (b : key ≡ key_at e s p) (r : MarksNew e s from to marks key f new after) where
-      next-key : keys_at e s old i last ≡ key ∷ keys_at e s old (i + 1) last
-      next-key =
-          ap (map (key_at e s)) (sym (span-kept m.kept i last m.inside) ∙ span-cons new i last h meets-fits)
-          ∙ rw (b, a, span-kept m.kept (i + 1) last m.inside)
+      pub meets_next : {j : ℕ} → f ≡ Some j → Meets e s words listed after (i + 1)
+      unfolding met new_each
+      meets_next {j} g = record {
+        seen = key ∷ m.seen;
+        marked = r.next j g m.seen m.marked;
+        answer = rw (next-key, ← told, g) at m.answer;
+        ends = rw next-key at m.ends;
+      }
 
-      pub meets-next : {w : ℕ} → f ≡ Some w → Meets e s old first last from to marks after (i + 1)
+      pub meets_stop : f ≡ None → false ≡ (all_in (keys_of e s listed) (keys_of e s words) && all_different (keys_of e s listed))
+      unfolding new_each
+      meets_stop g = rw (next-key, ← told, g) at m.answer ∙ new-first (keys_of e s words) (keys_of e s listed)
+
+    -- at the end all keys were met
+    module _ (h : length listed ≤ i) where
+      none-left : drop i listed ≡ []
+      none-left = drop_of_length-le listed h
+
+      pub meets_all : true ≡ (all_in (keys_of e s listed) (keys_of e s words) && all_different (keys_of e s listed))
+      unfolding new_each
+      meets_all = rw none-left at m.answer ∙ new-first (keys_of e s words) (keys_of e s listed)
+
+      pub meets_marked : all is_set marks ≡ all_in (keys_of e s words) (keys_of e s listed)
       unfolding met
-      meets-next {w} j =
-          let q = r.found w j m.seen m.marked in
-          record {
-            seen = key ∷ m.seen;
-            marked = q.2;
-            kept = kept_trans m.kept r.kept;
-            inside = m.inside;
-            below = m.below;
-            answer =
-                sym (new-one (keys_at e s old from to) m.seen key (keys_at e s old (i + 1) last) (rw (← names-kept) q.0) q.1)
-                ∙ rw next-key at m.answer;
-            ends = rw next-key at m.ends;
-          }
-
-      pub meets-stop : f ≡ None → MarksAll e s from to marks (keys_at e s old first last) false old after
-      meets-stop j =
-          let q = r.nothing j m.seen m.marked in
-          record {
-            answer =
-                sym (new-not (keys_at e s old from to) m.seen key (keys_at e s old (i + 1) last) (rw (← names-kept) q))
-                ∙ rw next-key at m.answer
-                ∙ new-first (keys_at e s old from to) (keys_at e s old first last);
-            kept = kept_trans m.kept r.kept;
-            whole = λ z. absurd (false≢true z);
-          }
-
-    pub meets-end : last ≤ i → MarksAll e s from to marks (keys_at e s old first last) true old new
-    unfolding new_each met
-    meets-end h =
-        let none : keys_at e s old i last ≡ [] = ap (map (key_at e s)) (sym (span_none old i last h)) in
-        record {
-          answer = rw none at m.answer ∙ new-first (keys_at e s old from to) (keys_at e s old first last);
-          kept = m.kept;
-          whole = λ _.
-              marked_all m.marked
-              ∙ (rw (names-kept, rw none at m.ends))
-              ∙ all-met (keys_at e s old from to) (keys_at e s old first last);
-        }
-
--- ---- marks that were cleared before
-pub cleared-first : (first : ℕ) {e : Section} {s old new after : List ℕ} {last from to marks : ℕ} {r : Bool} → Keyed e s old from to marks → last ≤ marks
-    → new ≡ filled 0 marks (marks + (to - from)) old → MarksAll e s from to marks (keys_at e s new first last) r new after
-    → MarksAll e s from to marks (keys_at e s old first last) r old after
-cleared-first first {e} {s} {old} {new} {after} {last} {from} {to} {marks} k h i m =
-    let c : Kept marks (marks + (to - from)) old new = cleared-kept k i in
-    let ks : span new first last ≡ span old first last = span-kept c first last h in
-    let ns : span new from to ≡ span old from to = span-kept c from to k.below in
-    record { answer = rw (ks, ns) at m.answer; kept = kept_trans c m.kept; whole = rw (ks, ns) at m.whole }
+      meets_marked =
+          ap (all is_set) m.marked ∙ all_set m.seen (keys_of e s words) ∙ ap (all_in (keys_of e s words)) (rw none-left at m.ends)
+          ∙ all-met (keys_of e s words) (keys_of e s listed)
 
 -- ---- each once: all known, all different, none left out
-module _ {e : Section} {s old new : List ℕ} {from to marks : ℕ} {ks : List (List ℕ)} {r : Bool} (m : MarksAll e s from to marks ks r old new) where
-  once_is : each_once ks (keys_at e s old from to) ≡ (r && all_in (keys_at e s old from to) ks)
-  unfolding each_once same_set
-  once_is = rw m.answer (go (all_different ks) (all_in ks (keys_at e s old from to)) (all_in (keys_at e s old from to) ks))
-    where
-      go : (a b c : Bool) → (a && (b && c)) ≡ ((b && a) && c)
-      go true true c = refl
-      go true false c = refl
-      go false true c = refl
-      go false false c = refl
-
-  pub once-not : r ≡ false → false ≡ each_once ks (keys_at e s old from to)
-  once-not n = sym (once_is ∙ (rw n))
-
-  pub once-all : r ≡ true → {b : Bool} → b ≡ all is_set (span new marks (marks + (to - from))) → b ≡ each_once ks (keys_at e s old from to)
-  once-all n i = let y : r ≡ true = n in i ∙ m.whole y ∙ sym (once_is ∙ (rw y))
+pub once-is : (ks names : List (List ℕ)) → each_once ks names ≡ ((all_in ks names && all_different ks) && all_in names ks)
+unfolding each_once same_set
+once-is ks names = go (all_different ks) (all_in ks names) (all_in names ks)
+  where
+    go : (a b c : Bool) → (a && (b && c)) ≡ ((b && a) && c)
+    go true true c = refl
+    go true false c = refl
+    go false true c = refl
+    go false false c = refl

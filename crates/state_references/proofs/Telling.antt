@@ -1,49 +1,64 @@
--- What is asked of entries one by one: what the searches for their keys tell, and a loop over them.
-use Prim.Native.Nat.{ℕ, ◌+◌, ◌≤◌, ◌<◌}
-use mathlib.Core.Path.{◌≡◌, sym, ◌∙◌}
-use mathlib.Core.Bool.{Bool, true, false, ◌&&◌}
-use mathlib.Core.List.{List}
-use lib.ListN.{length, get_or}
+-- What is asked of entries one by one: what a search for a key tells, and a walk over the entries, from each to the next.
+use Prim.Native.Nat.{ℕ, ◌<◌}
+use native.Mathlib.Omega.{arith}
+use mathlib.Core.Path.{◌≡◌, sym, ap, subst}
+use mathlib.Core.Bool.{Bool, true, false}
+use mathlib.Core.List.{List, [], ◌∷◌}
+use lib.ListN.{length, length-map}
+use denote.Param.Members.{Mut}
 use Rattle.std.specs.Prelude.{Option, Some, None, is_some}
-use Rattle.state.specs.Bytes.{span}
-use Rattle.state.proofs.Bytes.{span-cons, span_none}
-use Rattle.format.specs.Lists.{same}
+use Rattle.std.specs.Fn.{Called}
+use Rattle.std.specs.Iterator.{Yields, YieldsThen, AlwaysYields}
+use Rattle.std.specs.List.{FoldsTo}
+use Rattle.std.specs.Option.{MatchOption}
+use Rattle.std.proofs.lemmas.Iterator.{YieldsList}
 use Rattle.format.specs.Manifest.{connectors}
 use Rattle.format.specs.Places.{key_at}
-use Rattle.format.proofs.Lists.{same_true}
 use Rattle.questions.specs.Sets.{all}
-use Rattle.state_layout.specs.Marks.{Keyed, keys_at}
-use Rattle.state_layout.proofs.Marked.{key-found}
-use Rattle.state_references.specs.Known.{known_at}
+use Rattle.state_index.specs.Words.{Found}
+use Rattle.state_layout.specs.Keys.{keys_of}
+use Rattle.state_layout.proofs.Marked.{get-map, key_in}
+use Rattle.state_references.specs.Known.{names_of, known_at}
 
--- ---- one entry
-module _ {s index : List ℕ} {from to : ℕ} (k : Keyed connectors s index from to to) (p : ℕ) where
-  abbrev names : List (List ℕ)
-  names = keys_at connectors s index from to
+-- ---- the connector whose key stands at a position
+module _ {s words : List ℕ} (p : ℕ) {f : Option ℕ} (r : Found connectors s words (key_at connectors s p) f) where
+  pub found_known : {i : ℕ} → f ≡ Some i → true ≡ known_at s (names_of s words) p
+  unfolding known_at
+  found_known {i} e =
+      let h = r.at i e in
+      let k : i < length (keys_of connectors s words) = omega (arith, h.0, length-map words (key_at connectors s)) in
+      sym (rw (get-map (key_at connectors s) words i 0 [] h.0, h.1) at (key_in (keys_of connectors s words) i k))
 
-  -- its key is that of a word's entry
-  module _ {w : ℕ} (h : from ≤ w) (l : w < to) where
-    pub word-tells : {key : List ℕ} → key_at connectors s (get_or index w 0) ≡ key → key ≡ key_at connectors s p → true ≡ known_at s names p
-    unfolding known_at
-    word-tells i e = sym (key-found k h l (i ∙ e))
+-- ---- a walk: what a turn makes of a word and of what the one before it made, until it makes none
+module _ {A F C : Type 0} (g : Mut F (C × (A × Unit {0})) (Option C)) where
+  abbrev Turn : F × C → A → F × C → Type 0
+  Turn p x q = (o : Option C) × Called g p.0 (p.1, (x, tt)) o q.0 × (o ≡ Some q.1)
 
-    -- as the comparison of the two says
-    pub same-tells : {q : ℕ} {b : Bool} → q ≡ get_or index w 0 → b ≡ same (key_at connectors s p) (key_at connectors s q) → b ≡ true → true ≡ known_at s names p
-    same-tells i e y = word-tells (rw (← i)) (sym (same_true _ _ (sym e ∙ y)))
+  abbrev Ends : Type 0 → Option C → F → C → Option A → Type 0
+  Ends E r j c o = MatchOption o (r ≡ Some c) (λ x. (w : Option C) × (h : F) × (e : E) × Called g j (c, (x, tt)) w h × (w ≡ None) × (r ≡ None))
 
--- ---- entry by entry: of those left as much is asked as of all
-module _ (t : ℕ → Bool) (index : List ℕ) (i last : ℕ) where
-  one : i < last → last ≤ length index → {p : ℕ} → p ≡ get_or index i 0 → all t (span index i last) ≡ (t p && all t (span index (i + 1) last))
-  unfolding all
-  one h k e = rw (span-cons index i last h k, e)
+  module _ {S : Type 0} (steps : S → Option A → S → Type 0) (v : A → ℕ) (t : ℕ → Bool) (f : F)
+      (tells : (a : C) (x : A) (o : Option C) (q : F) → Called g f (a, (x, tt)) o q → (q ≡ f) × (is_some o ≡ t (v x))) (E : Type 0) (r : Option C) (j : F) (c : C) (u : S) where
+    walk : (xs : List A) (words : List ℕ) (s m : S) (o : Option A) (a : C) → AlwaysYields steps v s words → Yields steps s xs m → steps m o u
+        → FoldsTo {P = F × C} Turn (f, a) xs (j, c) → Ends E r j c o → is_some r ≡ all t words
+    unfolding all
+    walk [] [] s m None a e y p d h = rw h
+    walk [] [] s m (Some x) a e y p d h = absurd (e x u (subst (λ k. steps k (Some x) u) (sym y) p))
+    walk [] (z ∷ words) s m None a e y p d h = absurd (e.0 u (subst (λ k. steps k None u) (sym y) p))
+    walk [] (z ∷ words) s m (Some x) a e y p d h =
+        let z-is : v x ≡ z = (e.1 x u (subst (λ k. steps k (Some x) u) (sym y) p)).0 in
+        let same : j ≡ f = sym (ap (λ (q : F × C). q.0) d) in
+        let no : false ≡ t z = rw (h.4, z-is) at (tells c x h.0 h.1 (subst (λ k. Called g k (c, (x, tt)) h.0 h.1) same h.3)).1 in
+        rw (h.5, ← no)
+    walk (x ∷ xs) [] s m o a e y p d h = absurd (e x y.0 y.1)
+    walk (x ∷ xs) (z ∷ words) s m o a e y p d h =
+        let n = e.1 x y.0 y.1 in
+        let told = tells a x d.1.0 d.0.0 d.1.1 in
+        let yes : true ≡ t z = rw (d.1.2, n.0) at told.1 in
+        rw (← yes) (walk xs words y.0 m o d.0.1 n.1 y.2 p (subst (λ k. FoldsTo {P = F × C} Turn (k, d.0.1) xs (j, c)) told.0 d.2) h)
 
-  module _ (h : i < last) (k : last ≤ length index) {p : ℕ} {f : Option ℕ} (e : p ≡ get_or index i 0) (u : is_some f ≡ t p) where
-    pub all-next : {w : ℕ} → f ≡ Some w → {b : Bool} → all t (span index i last) ≡ b → all t (span index (i + 1) last) ≡ b
-    all-next j b = rw (one h k e, ← u, j) at b
-
-    pub all-stop : f ≡ None → {b : Bool} → all t (span index i last) ≡ b → false ≡ b
-    all-stop j b = rw (one h k e, ← u, j) at b
-
-  pub all_end : last ≤ i → {b : Bool} → all t (span index i last) ≡ b → true ≡ b
-  unfolding all
-  all_end h b = rw (← span_none index i last h) at b
+pub walked : {S A F C E : Type 0} {steps : S → Option A → S → Type 0} {v : A → ℕ} {g : Mut F (C × (A × Unit {0})) (Option C)} {s : S} {words : List ℕ} (t : ℕ → Bool) (u : S) (f : F) (a : C) (r : Option C)
+    → (xs : List A) × (o : Option A) × (j : F) × (c : C) × YieldsThen steps s xs o u × FoldsTo {P = F × C} (Turn g) (f, a) xs (j, c) × Ends g E r j c o
+    → YieldsList steps v s words → ((a : C) (x : A) (o : Option C) (q : F) → Called g f (a, (x, tt)) o q → (q ≡ f) × (is_some o ≡ t (v x))) → is_some r ≡ all t words
+walked {E = E} {steps = steps} {v = v} {g = g} {s = s} {words = words} t u f a r d y tells =
+    walk g steps v t f tells E r d.2 d.3 u d.0 words s d.4.0 d.1 a y.runs d.4.1 d.4.2 d.5 d.6

@@ -21,7 +21,7 @@ use Rattle.state_index.specs.Keys.{text_at}
 use Rattle.state_layout.specs.Tables.{Table}
 use Rattle.state_layout.proofs.Tables.{limit}
 use Rattle.state_layout.proofs.Names.{keys-are}
-use Rattle.state_references.specs.Known.{of_way, known_at, directed_at, joins_at, drives_at, holds_at}
+use Rattle.state_references.specs.Known.{of_way, known_at, directed_at, joins_at, drives_at, source_at}
 
 -- ---- a connector key
 way-is : (s : List ℕ) (p : ℕ) → direction (value_at connector_key s p) ≡ get_or s (past block_key s p) 0
@@ -40,24 +40,24 @@ module _ {s : List ℕ} (bytes : AreBytes s) (p : ℕ) where
 
 -- ---- an entry
 module _ {s : List ℕ} (bytes : AreBytes s) (names : List (List ℕ)) (p : ℕ) where
-  joins-is : Well limit (entry connections) s p → holds_at s names 5 p ≡ joins names (value_at (entry connections) s p)
-  unfolding holds_at joins_at joins source sink value_at
+  joins-is : Well limit (entry connections) s p → joins_at s names p ≡ joins names (value_at (entry connections) s p)
+  unfolding joins_at joins source sink value_at
   joins-is w =
       let k = well-then limit s connector_key connector_key p (well-then limit s (connector_key then connector_key) done p w).0 in
       rw (directed-is bytes p names k.0 1, directed-is bytes (past connector_key s p) names k.1 0)
 
-  drives-is : Well limit (entry driver_of) s p → holds_at s names 8 p ≡ drives names (value_at (entry driver_of) s p)
-  unfolding holds_at drives_at drives driven driver value_at
+  drives-is : Well limit (entry driver_of) s p → drives_at s names p ≡ drives names (value_at (entry driver_of) s p)
+  unfolding drives_at drives driven driver value_at
   drives-is w =
       let k = well-then limit s connector_key connector_key p w in
       rw (known_is bytes p names k.0, known_is bytes (past connector_key s p) names k.1)
 
-  external-is : Well limit (entry external_inputs) s p → (holds_at s names 10 p && is_in (key_at connectors s p) names) ≡ is_directed names 0 (external_input (value_at (entry external_inputs) s p))
-  unfolding holds_at external_input value_at directed_at known_at
+  external-is : Well limit (entry external_inputs) s p → (of_way s 0 p && is_in (key_at connectors s p) names) ≡ is_directed names 0 (external_input (value_at (entry external_inputs) s p))
+  unfolding external_input value_at directed_at known_at
   external-is w = directed-is bytes p names (well-then limit s connector_key done p w).0 0
 
-  output-is : Well limit (entry boundary_outputs) s p → holds_at s names 11 p ≡ is_directed names 1 (output_source (value_at (entry boundary_outputs) s p))
-  unfolding holds_at output_source value_at
+  output-is : Well limit (entry boundary_outputs) s p → source_at s names p ≡ is_directed names 1 (output_source (value_at (entry boundary_outputs) s p))
+  unfolding source_at output_source value_at
   output-is w = directed-is bytes (past text s p) names (well-then limit s text connector_key p w).1 1
 
 -- ---- all entries of a section
@@ -77,20 +77,20 @@ unfolding all_in
 all_known f k names ps = sym (all_both f (λ p. is_in (k p) names) ps ∙ rw (all_map (λ l. is_in l names) k ps))
 
 module _ {s : List ℕ} (bytes : AreBytes s) (names : List (List ℕ)) {ps : List ℕ} where
-  pub all-join-is : {vs : List (Entry connections)} → Table connections s ps vs → all (holds_at s names 5) ps ≡ all (joins names) vs
-  all-join-is t = table-all connections t (holds_at s names 5) (joins names) (joins-is bytes names)
+  pub all-join-is : {vs : List (Entry connections)} → Table connections s ps vs → all (joins_at s names) ps ≡ all (joins names) vs
+  all-join-is t = table-all connections t (joins_at s names) (joins names) (joins-is bytes names)
 
-  pub all-drive-is : {vs : List (Entry driver_of)} → Table driver_of s ps vs → all (holds_at s names 8) ps ≡ all (drives names) vs
-  all-drive-is t = table-all driver_of t (holds_at s names 8) (drives names) (drives-is bytes names)
+  pub all-drive-is : {vs : List (Entry driver_of)} → Table driver_of s ps vs → all (drives_at s names) ps ≡ all (drives names) vs
+  all-drive-is t = table-all driver_of t (drives_at s names) (drives names) (drives-is bytes names)
 
-  pub all-output-is : {vs : List (Entry boundary_outputs)} → Table boundary_outputs s ps vs → all (holds_at s names 11) ps ≡ all (λ o. is_directed names 1 (output_source o)) vs
-  all-output-is t = table-all boundary_outputs t (holds_at s names 11) (λ o. is_directed names 1 (output_source o)) (output-is bytes names)
+  pub all-output-is : {vs : List (Entry boundary_outputs)} → Table boundary_outputs s ps vs → all (source_at s names) ps ≡ all (λ o. is_directed names 1 (output_source o)) vs
+  all-output-is t = table-all boundary_outputs t (source_at s names) (λ o. is_directed names 1 (output_source o)) (output-is bytes names)
 
   pub all-external-is : {vs : List (Entry external_inputs)} → Table external_inputs s ps vs
-      → (all (holds_at s names 10) ps && all_in (map (key_at connectors s) ps) names) ≡ all (λ x. is_directed names 0 (external_input x)) vs
+      → (all (of_way s 0) ps && all_in (map (key_at connectors s) ps) names) ≡ all (λ x. is_directed names 0 (external_input x)) vs
   all-external-is t =
-      all_known (holds_at s names 10) (key_at connectors s) names ps
-      ∙ table-all external_inputs t (λ p. holds_at s names 10 p && is_in (key_at connectors s p) names) (λ x. is_directed names 0 (external_input x)) (external-is bytes names)
+      all_known (of_way s 0) (key_at connectors s) names ps
+      ∙ table-all external_inputs t (λ p. of_way s 0 p && is_in (key_at connectors s p) names) (λ x. is_directed names 0 (external_input x)) (external-is bytes names)
 
 -- ---- keys and names
 module _ {s : List ℕ} (bytes : AreBytes s) {ps : List ℕ} where

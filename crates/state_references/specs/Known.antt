@@ -1,10 +1,15 @@
 -- What is asked of the entries at positions of the bytes: that the connectors they name are known, and of a direction.
-use Rattle.std.specs.Prelude.{ℕ, Bool, cond, ◌&&◌, List, get_or, eqb}
+use Rattle.std.specs.Prelude.{ℕ, Bool, ◌&&◌, List, get_or, eqb}
 use Rattle.format.specs.Lists.{is_in}
 use Rattle.format.specs.Format.{text}
 use Rattle.format.specs.Keys.{block_key, connector_key}
 use Rattle.format.specs.Manifest.{connectors}
 use Rattle.format.specs.Places.{past, key_at}
+use Rattle.state_layout.specs.Keys.{keys_of}
+
+-- the keys of the connectors that words list
+abbrev pub names_of : (s words : List ℕ) → List (List ℕ)
+names_of s words = keys_of connectors s words
 
 module _ (s : List ℕ) where
   -- the connector key at a position is of a direction: 0 in, 1 out
@@ -26,9 +31,6 @@ module _ (s : List ℕ) where
     unfoldable pub drives_at : (p : ℕ) → Bool
     drives_at p = known_at p && known_at (past connector_key s p)
 
-    -- what is asked of each entry by itself: of a connection, a driver, an external input, a boundary output
-    unfoldable pub holds_at : (section p : ℕ) → Bool
-    holds_at section p =
-        cond (eqb section 5) (joins_at p)
-        (cond (eqb section 8) (drives_at p)
-        (cond (eqb section 10) (of_way 0 p) (directed_at 1 (past text s p))))
+    -- question 26 of a boundary output: the source behind its name
+    unfoldable pub source_at : (p : ℕ) → Bool
+    source_at p = directed_at 1 (past text s p)

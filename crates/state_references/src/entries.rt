@@ -1,17 +1,16 @@
-// What is asked of each entry by itself: that the connectors it names are known, and of the right direction.
-ghost use Rattle.std.specs.Prelude.{◌≡◌, ◌≤◌, length, is_some};
-ghost use Rattle.state.specs.Bytes.{span};
+// What is asked of each entry by itself: that the connectors it names are known, and of the right direction. A yes is the place in the
+// connectors' table that the next entry is to try first.
+ghost use Rattle.std.specs.Prelude.{◌≡◌, is_some};
 ghost use Rattle.format.specs.Lists.{same};
-ghost use Rattle.format.specs.Manifest.{connectors, numbered};
+ghost use Rattle.format.specs.Manifest.{numbered};
 ghost use Rattle.format.specs.Places.{key_at};
-ghost use Rattle.questions.specs.Sets.{all};
-ghost use Rattle.state_layout.specs.Marks.{Keyed, keys_at};
-ghost use Rattle.state_references.specs.Known.{of_way, known_at, directed_at, holds_at};
+ghost use Rattle.state_references.specs.Known.{names_of, of_way, known_at, directed_at, joins_at, drives_at, source_at};
 
 use state::{Section, WireDir};
 use state_index::keys::{block_key_end, byte_at, connector_key_end};
-use state_index::{Table, key_part, text_end, word_at};
+use state_index::{key_part, text_end};
 use state_key_order::same_bytes;
+use state_layout::keys::Connectors;
 
 // Have the entries of a section at two positions the same key?
 pub(crate) fn same_key(s: &[u8], section: u8, a: usize, b: usize) -> bool
@@ -20,92 +19,58 @@ pub(crate) fn same_key(s: &[u8], section: u8, a: usize, b: usize) -> bool
     same_bytes(key_part(s, section, a), key_part(s, section, b))
 }
 
-// Looks in the table for the connector whose key stands at a position, and gives the word after it: the one to try next, as keys ascend. The
-// hint's word is compared here, so `find` is given `table.to`, which is none of them.
-#[tactic(auto, unfolding(crate::specs::Known::known_at, format::specs::Manifest::numbered))]
-fn find_connector(s: &[u8], index: &[u32], table: Table, at: usize, hint: usize) -> Option<usize>
-    requires { Keyed connectors s.now index.now table.from table.to table.to }
-    ensures { is_some result ≡ known_at s.now (keys_at connectors s.now index.now table.from table.to) at }
+// Looks for the connector whose key stands at a position, and gives the place after it: the one to try next, as keys ascend.
+#[tactic(auto, using(crate::proofs::Telling::found_known), unfolding(crate::specs::Known::known_at, format::specs::Manifest::numbered))]
+fn find_connector(known: Connectors, at: usize, hint: usize) -> Option<usize>
+    ensures { is_some result ≡ known_at known.entry.s.now (names_of known.entry.s.now known.entry.words.now) at }
 {
-    if table.from <= hint
-        && hint < table.to
-        && same_key(s, Section::CONNECTORS, at, word_at(index, hint))
-    {
-        return Some(hint + 1);
-    }
-    let key = key_part(s, Section::CONNECTORS, at);
-    let w = table.find(s, Section::CONNECTORS, index, key, table.to)?;
-    Some(w + 1)
+    let i = known.find(key_part(known.s, Section::CONNECTORS, at), hint)?;
+    Some(i + 1)
 }
 
 // The same, where the key is of this direction.
 #[tactic(auto, unfolding(crate::specs::Known::directed_at))]
-fn find_directed(
-    s: &[u8],
-    index: &[u32],
-    table: Table,
-    way: u8,
-    at: usize,
-    hint: usize,
-) -> Option<usize>
-    requires { Keyed connectors s.now index.now table.from table.to table.to }
-    ensures { is_some result ≡ directed_at s.now (keys_at connectors s.now index.now table.from table.to) way at }
+fn find_directed(known: Connectors, way: u8, at: usize, hint: usize) -> Option<usize>
+    ensures { is_some result ≡ directed_at known.entry.s.now (names_of known.entry.s.now known.entry.words.now) way at }
 {
-    if !is_of_way(s, way, at) {
+    if !is_of_way(known.s, way, at) {
         return None;
     }
-    find_connector(s, index, table, at, hint)
+    find_connector(known, at, hint)
 }
 
 // Is the connector key at a position of a direction?
 #[tactic(auto, unfolding(crate::specs::Known::of_way))]
-fn is_of_way(s: &[u8], way: u8, at: usize) -> bool
+pub(crate) fn is_of_way(s: &[u8], way: u8, at: usize) -> bool
     ensures { result ≡ of_way s.now way at }
 {
     byte_at(s, block_key_end(s, at)) == way
 }
 
-// Whether what is asked of an entry of a section holds: if so, the word to try first for the next entry.
-#[tactic(auto, unfolding(crate::specs::Known::holds_at, crate::specs::Known::joins_at, crate::specs::Known::drives_at))]
-fn holds(
-    s: &[u8],
-    index: &[u32],
-    section: u8,
-    table: Table,
-    at: usize,
-    hint: usize,
-) -> Option<usize>
-    requires { Keyed connectors s.now index.now table.from table.to table.to }
-    ensures { is_some result ≡ holds_at s.now (keys_at connectors s.now index.now table.from table.to) section at }
+// Question 17 of a connection.
+#[tactic(auto, unfolding(crate::specs::Known::joins_at))]
+pub(crate) fn joins(known: Connectors, at: usize, hint: usize) -> Option<usize>
+    ensures { is_some result ≡ joins_at known.entry.s.now (names_of known.entry.s.now known.entry.words.now) at }
 {
-    match section {
-        Section::CONNECTIONS => {
-            let sink = connector_key_end(s, at);
-            find_directed(s, index, table, WireDir::IN, sink, hint)?;
-            find_directed(s, index, table, WireDir::OUT, at, hint)
-        }
-        Section::DRIVER_OF => {
-            let driver = connector_key_end(s, at);
-            find_connector(s, index, table, driver, hint)?;
-            find_connector(s, index, table, at, hint)
-        }
-        Section::EXTERNAL_INPUTS => is_of_way(s, WireDir::IN, at).then_some(hint),
-        _ => find_directed(s, index, table, WireDir::OUT, text_end(s, at), hint),
-    }
+    let sink = connector_key_end(known.s, at);
+    find_directed(known, WireDir::IN, sink, hint)?;
+    find_directed(known, WireDir::OUT, at, hint)
 }
 
-// Whether it holds of each of a section's entries; the table is that of the connectors.
-pub(crate) fn all_hold(s: &[u8], index: &[u32], section: u8, entries: Table, table: Table) -> bool
-    requires keyed { Keyed connectors s.now index.now table.from table.to table.to }
-    requires in_bounds { entries.to ≤ length index.now }
-    ensures { result ≡ all (holds_at s.now (keys_at connectors s.now index.now table.from table.to) section) (span index.now entries.from entries.to) }
+// Question 20 of a driver.
+#[tactic(auto, unfolding(crate::specs::Known::drives_at))]
+pub(crate) fn drives(known: Connectors, at: usize, hint: usize) -> Option<usize>
+    ensures { is_some result ≡ drives_at known.entry.s.now (names_of known.entry.s.now known.entry.words.now) at }
 {
-    let mut hint = table.from;
-    for i in entries.from..entries.to {
-        let Some(w) = holds(s, index, section, table, word_at(index, i), hint) else {
-            return false;
-        };
-        hint = w;
-    }
-    true
+    let driver = connector_key_end(known.s, at);
+    find_connector(known, driver, hint)?;
+    find_connector(known, at, hint)
+}
+
+// Question 26 of a boundary output: its source.
+#[tactic(auto, unfolding(crate::specs::Known::source_at))]
+pub(crate) fn has_source(known: Connectors, at: usize, hint: usize) -> Option<usize>
+    ensures { is_some result ≡ source_at known.entry.s.now (names_of known.entry.s.now known.entry.words.now) at }
+{
+    find_directed(known, WireDir::OUT, text_end(known.s, at), hint)
 }

@@ -4,155 +4,217 @@
 mod entries;
 mod sets;
 
-ghost use Rattle.std.specs.Prelude.{◌≡◌, map, suc, ◌-◌, ◌≤◌};
+ghost use Rattle.std.specs.Prelude.{◌≡◌, map, ◌&&◌, ◌≤◌, ℕ, Bool, List, is_some};
 ghost use Rattle.state.specs.Outcome.{said};
 ghost use Rattle.format.specs.Lists.{all_different};
-ghost use Rattle.format.specs.Fields.{connectors_of, boundary_outputs_of, output_name};
-ghost use Rattle.questions.specs.Sets.{all, each_once, first};
+ghost use Rattle.format.specs.Fields.{connectors_of, connections_of, drivers_of, boundary_outputs_of, external_inputs_of, output_name, output_source};
+ghost use Rattle.questions.specs.Sets.{all, all_in, each_once, first};
 ghost use Rattle.questions.specs.Declarations.{connector_names};
-ghost use Rattle.questions.specs.References.{references, boundaries};
-ghost use Rattle.state_layout.specs.Tables.{manifest_of, table_start, table_of, Tabled, Leaves};
-ghost use Rattle.state_references.specs.Known.{holds_at};
-ghost use Rattle.state_references.specs.Listed.{keys_listed, Lists, MarksListed};
+ghost use Rattle.questions.specs.References.{joins, drives, drivers_hold, is_directed, externals_hold, outputs_hold, references, boundaries};
+ghost use Rattle.state_layout.specs.Tables.{manifest_of, table_of, Laid, Tabled, Leaves};
+ghost use Rattle.state_references.specs.Known.{names_of, of_way};
+ghost use Rattle.state_references.specs.Rooms.{Roomy, keys_listed};
 
-use entries::{all_hold, same_key};
+use entries::{drives, has_source, is_of_way, joins, same_key};
 use sets::{all_new, texts_differ};
-use state::{Question, Section};
-use state_index::word_at;
-use state_layout::hints::put_hints;
-use state_layout::marks::all_marked;
-use state_layout::{table_at, table_start};
+use state::{Question, Section, WireDir};
+use state_layout::hints::fill_hints;
+use state_layout::keys::{Connectors, all_marked, keys_of};
+use state_layout::{room_start, table_of};
 
-// How many entries a section has.
-fn count_of(s: &[u8], index: &[u32], section: u8) -> usize
-    requires tabled { Tabled s.now index.now }
-    requires section_bound { (section ≤ 12) × (table_start section (manifest_of s.now) ≤ table_start (suc section) (manifest_of s.now)) }
-    ensures { result ≡ table_start (suc section) (manifest_of s.now) - table_start section (manifest_of s.now) }
-{
-    let table = table_at(s, index, section);
-    table.to - table.from
-}
-
-// Whether what is asked of an entry by itself holds of each of a section's.
-fn entries_hold(s: &[u8], index: &[u32], section: u8) -> bool
-    requires tabled { Tabled s.now index.now }
+// Whether what is asked of an entry by itself holds of each of a section's. It is given the place to try first: the one that the entry before
+// it answered.
+fn entries_hold<F: Fn(Connectors, usize, usize) -> Option<usize>>(
+    s: &[u8],
+    tables: &[u32],
+    room: &[u32],
+    section: u8,
+    holds: F,
+) -> bool
+    ghost test: { List ℕ → List (List ℕ) → ℕ → Bool }
+    requires laid { Laid s.now tables.now }
     requires section_bound { section ≤ 12 }
-    ensures { result ≡ all (holds_at s.now (connector_names (connectors_of (manifest_of s.now))) section) (table_of section s.now index.now) }
+    requires callable { F.IsAlwaysCallable holds }
+    requires tells { (known : _) (p hint : ℕ) (f : _) → F.post holds known p hint f → is_some f ≡ test known.s.now (names_of known.s.now known.words.now) p }
+    ensures { result ≡ all (test s.now (connector_names (connectors_of (manifest_of s.now)))) (table_of section s.now tables.now) }
 {
-    let entries = table_at(s, index, section);
-    let connectors = table_at(s, index, Section::CONNECTORS);
-    all_hold(s, index, section, entries, connectors)
+    let known: Connectors = keys_of(s, tables, room);
+    table_of(s, tables, section)
+        .iter()
+        .try_fold(0, |hint, word| holds(known, *word as usize, hint))
+        .is_some()
 }
 
-// Are the keys that a section lists known, as those of another section, and all different?
-fn all_listed_new(s: &[u8], index: &mut [u32], section: u8, listed: u8) -> bool
-    requires { Lists section listed s.now index.old }
-    ensures { MarksListed section listed s.now result index.old index.new }
+// Question 20: as many drivers as connectors, and their keys known.
+#[tactic(auto, using(crate::proofs::Answered::drivers_answer, crate::proofs::Answered::drivers_long, crate::proofs::Answered::connectors_long), unfolding(questions::specs::References::drivers_hold))]
+fn drivers_hold(s: &[u8], tables: &[u32], room: &[u32]) -> bool
+    requires laid { Laid s.now tables.now }
+    ensures { result ≡ drivers_hold (drivers_of (manifest_of s.now)) (connectors_of (manifest_of s.now)) }
 {
-    let keys = table_at(s, index, listed);
-    let table = table_at(s, index, section);
-    let marks = table_start(s, index, 13);
-    all_new(s, index, section, keys, table, marks)
+    let drivers = table_of(s, tables, Section::DRIVER_OF);
+    let connectors = table_of(s, tables, Section::CONNECTORS);
+    drivers.len() == connectors.len() && entries_hold(s, tables, room, Section::DRIVER_OF, drives)
 }
 
-// Are they the other section's keys, each once?
-fn require_exact_set(s: &[u8], index: &mut [u32], section: u8, listed: u8) -> bool
-    requires { Lists section listed s.now index.old }
-    ensures value { result ≡ each_once (keys_listed section listed s.now index.old) (keys_listed section section s.now index.old) }
-    ensures leaves { Leaves s.now index.old index.new }
+// Are the keys that a section lists known, as those of section SECTION, and all different? The marks stand in front in the room, as the hints
+// are at its end.
+#[tactic(auto, using(crate::proofs::Answered::room_marks))]
+fn all_listed_new<const SECTION: u8>(s: &[u8], tables: &[u32], room: &mut [u32], listed: u8) -> bool
+    requires laid { Laid s.now tables.now }
+    requires roomy { Roomy s.now room.old }
+    requires section { (2 ≤ SECTION) × (SECTION ≤ 4) }
+    requires listed_bound { listed ≤ 12 }
+    ensures { result ≡ (all_in (keys_listed SECTION listed s.now tables.now) (keys_listed SECTION SECTION s.now tables.now) && all_different (keys_listed SECTION listed s.now tables.now)) }
 {
-    if !all_listed_new(s, index, section, listed) {
-        return false;
-    }
-    let marks = table_start(s, index, 13);
-    all_marked(index, marks, marks + count_of(s, index, section))
+    let (marks, hints) = room.split_at_mut(table_of(s, tables, SECTION).len());
+    let keys = keys_of::<SECTION>(s, tables, hints);
+    all_new(keys, marks, table_of(s, tables, listed))
 }
 
-// Are the names of the boundary outputs, with which they start, all different?
-fn names_differ(s: &[u8], index: &mut [u32]) -> bool
-    requires { Tabled s.now index.old }
-    ensures value { result ≡ all_different (map output_name (boundary_outputs_of (manifest_of s.now))) }
-    ensures leaves { Leaves s.now index.old index.new }
+// Are they that section's keys, each once?
+#[tactic(auto, using(crate::proofs::Answered::room_marks))]
+fn require_exact_set<const SECTION: u8>(
+    s: &[u8],
+    tables: &[u32],
+    room: &mut [u32],
+    listed: u8,
+) -> bool
+    requires laid { Laid s.now tables.now }
+    requires roomy { Roomy s.now room.old }
+    requires section { (2 ≤ SECTION) × (SECTION ≤ 4) }
+    requires listed_bound { listed ≤ 12 }
+    ensures { result ≡ each_once (keys_listed SECTION listed s.now tables.now) (keys_listed SECTION SECTION s.now tables.now) }
 {
-    let names = table_at(s, index, Section::BOUNDARY_OUTPUTS);
-    let room = table_start(s, index, 13);
-    texts_differ(s, index, names, room)
+    let (marks, hints) = room.split_at_mut(table_of(s, tables, SECTION).len());
+    let keys = keys_of::<SECTION>(s, tables, hints);
+    all_new(keys, marks, table_of(s, tables, listed)) && all_marked(marks)
 }
 
 // Questions 17 to 20.
-fn ask_references(s: &[u8], index: &mut [u32]) -> Result<(), Question>
-    requires { Tabled s.now index.old }
-    ensures value { result ≡ said (first (references (manifest_of s.now))) }
-    ensures leaves { Leaves s.now index.old index.new }
+#[tactic(auto, using(crate::proofs::Answered::connections_answer, crate::proofs::Answered::schedule_answer, crate::proofs::Answered::order_answer, crate::proofs::Answered::no_first, crate::proofs::Answered::yes_first, crate::proofs::Answered::yes_all), unfolding(questions::specs::References::references))]
+fn ask_references(s: &[u8], tables: &[u32], room: &mut [u32]) -> Result<(), Question>
+    requires laid { Laid s.now tables.now }
+    requires roomy { Roomy s.now room.old }
+    ensures { result ≡ said (first (references (manifest_of s.now))) }
 {
-    if !entries_hold(s, index, Section::CONNECTIONS) {
+    if !entries_hold(s, tables, room, Section::CONNECTIONS, joins) {
         return Err(Question(17));
     }
-    if !require_exact_set(s, index, Section::BLOCKS, Section::SCHEDULE) {
+    if !require_exact_set::<{ Section::BLOCKS }>(s, tables, room, Section::SCHEDULE) {
         return Err(Question(18));
     }
-    if !require_exact_set(s, index, Section::CONNECTORS, Section::CONNECTOR_ORDER) {
+    if !require_exact_set::<{ Section::CONNECTORS }>(s, tables, room, Section::CONNECTOR_ORDER) {
         return Err(Question(19));
     }
-    if count_of(s, index, Section::DRIVER_OF) != count_of(s, index, Section::CONNECTORS)
-        || !entries_hold(s, index, Section::DRIVER_OF)
-    {
+    if !drivers_hold(s, tables, room) {
         return Err(Question(20));
     }
     Ok(())
 }
 
-// Whether a section that lists keys of another begins and ends with that one's first and last. Then they are most likely in order, so that
+// Whether words that list keys of a section begin and end with the first and the last of its own. Then they are most likely in order, so that
 // no hints are needed; it promises nothing.
-fn ends_alike(s: &[u8], index: &[u32], section: u8, listed: u8) -> bool
-    requires tabled { Tabled s.now index.now }
-    requires section_bound { (section ≤ 12) × (listed ≤ 12) }
-{
-    let table = table_at(s, index, section);
-    let keys = table_at(s, index, listed);
-    if table.to <= table.from || keys.to <= keys.from {
-        return true;
+fn ends_alike(s: &[u8], section: u8, words: &[u32], listed: &[u32]) -> bool {
+    match (words, listed) {
+        ([first, .., last], [first_listed, .., last_listed]) => {
+            same_key(s, section, *first as usize, *first_listed as usize)
+                && same_key(s, section, *last as usize, *last_listed as usize)
+        }
+        _ => true,
     }
-    let first = word_at(index, keys.from);
-    let last = word_at(index, keys.to - 1);
-    same_key(s, section, word_at(index, table.from), first)
-        && same_key(s, section, word_at(index, table.to - 1), last)
 }
 
 // Hints of the blocks, if the schedule needs them.
-fn put_block_hints(s: &[u8], index: &mut [u32])
-    requires { Tabled s.now index.old }
-    ensures { Leaves s.now index.old index.new }
+fn fill_block_hints(s: &[u8], tables: &[u32], room: &mut [u32])
+    requires laid { Laid s.now tables.now }
 {
-    if !ends_alike(s, index, Section::BLOCKS, Section::SCHEDULE) {
-        put_hints(s, index, Section::BLOCKS);
+    let blocks = table_of(s, tables, Section::BLOCKS);
+    let schedule = table_of(s, tables, Section::SCHEDULE);
+    if !ends_alike(s, Section::BLOCKS, blocks, schedule) {
+        fill_hints(s, tables, room, Section::BLOCKS);
     }
 }
 
 // Questions 17 to 20, with hints of the tables in which keys are looked up; the connectors' serve 25 and 26 as well.
+#[tactic(auto, using(state_layout::proofs::Indexed::laid_of, state_layout::proofs::Indexed::laid_front, state_layout::proofs::Indexed::leaves_split, state_layout::proofs::Indexed::room_behind))]
 pub fn validate_references(s: &[u8], index: &mut [u32]) -> Result<(), Question>
     requires { Tabled s.now index.old }
     ensures value { result ≡ said (first (references (manifest_of s.now))) }
     ensures leaves { Leaves s.now index.old index.new }
 {
-    put_block_hints(s, index);
-    put_hints(s, index, Section::CONNECTORS);
-    ask_references(s, index)
+    let end = room_start(s, index);
+    let (tables, room) = index.split_at_mut(end);
+    fill_block_hints(s, tables, room);
+    fill_hints(s, tables, room, Section::CONNECTORS);
+    ask_references(s, tables, room)
+}
+
+// Question 25 of the external inputs one by one: of direction in.
+fn inputs_directed(s: &[u8], tables: &[u32]) -> bool
+    requires laid { Laid s.now tables.now }
+    ensures { result ≡ all (of_way s.now 0) (table_of 10 s.now tables.now) }
+{
+    table_of(s, tables, Section::EXTERNAL_INPUTS)
+        .iter()
+        .all(|word| is_of_way(s, WireDir::IN, *word as usize))
+}
+
+// Are the names of the boundary outputs, with which they start, all different?
+#[tactic(auto, using(crate::proofs::Answered::names_answer, crate::proofs::Answered::room_names))]
+fn names_differ(s: &[u8], tables: &[u32], room: &mut [u32]) -> bool
+    requires laid { Laid s.now tables.now }
+    requires roomy { Roomy s.now room.old }
+    ensures { result ≡ all_different (map output_name (boundary_outputs_of (manifest_of s.now))) }
+{
+    texts_differ(s, table_of(s, tables, Section::BOUNDARY_OUTPUTS), room)
+}
+
+// Question 25.
+#[tactic(auto, using(crate::proofs::Answered::externals_answer, crate::proofs::Answered::externals_other))]
+fn externals_hold(s: &[u8], tables: &[u32], room: &mut [u32]) -> bool
+    requires laid { Laid s.now tables.now }
+    requires roomy { Roomy s.now room.old }
+    ensures { result ≡ externals_hold (external_inputs_of (manifest_of s.now)) (connectors_of (manifest_of s.now)) }
+{
+    inputs_directed(s, tables)
+        && all_listed_new::<{ Section::CONNECTORS }>(s, tables, room, Section::EXTERNAL_INPUTS)
+}
+
+// Question 26.
+#[tactic(auto, using(crate::proofs::Answered::sources_answer), unfolding(questions::specs::References::outputs_hold))]
+fn outputs_hold(s: &[u8], tables: &[u32], room: &mut [u32]) -> bool
+    requires laid { Laid s.now tables.now }
+    requires roomy { Roomy s.now room.old }
+    ensures { result ≡ outputs_hold (boundary_outputs_of (manifest_of s.now)) (connectors_of (manifest_of s.now)) }
+{
+    entries_hold(s, tables, room, Section::BOUNDARY_OUTPUTS, has_source)
+        && names_differ(s, tables, room)
 }
 
 // Questions 25 and 26.
+#[tactic(auto, using(crate::proofs::Answered::no_first, crate::proofs::Answered::yes_first, crate::proofs::Answered::yes_all), unfolding(questions::specs::References::boundaries))]
+fn ask_boundaries(s: &[u8], tables: &[u32], room: &mut [u32]) -> Result<(), Question>
+    requires laid { Laid s.now tables.now }
+    requires roomy { Roomy s.now room.old }
+    ensures { result ≡ said (first (boundaries (manifest_of s.now))) }
+{
+    if !externals_hold(s, tables, room) {
+        return Err(Question(25));
+    }
+    if !outputs_hold(s, tables, room) {
+        return Err(Question(26));
+    }
+    Ok(())
+}
+
+// Questions 25 and 26.
+#[tactic(auto, using(state_layout::proofs::Indexed::laid_of, state_layout::proofs::Indexed::laid_front, state_layout::proofs::Indexed::leaves_split, state_layout::proofs::Indexed::room_behind))]
 pub fn validate_boundaries(s: &[u8], index: &mut [u32]) -> Result<(), Question>
     requires { Tabled s.now index.old }
     ensures value { result ≡ said (first (boundaries (manifest_of s.now))) }
     ensures leaves { Leaves s.now index.old index.new }
 {
-    if !entries_hold(s, index, Section::EXTERNAL_INPUTS)
-        || !all_listed_new(s, index, Section::CONNECTORS, Section::EXTERNAL_INPUTS)
-    {
-        return Err(Question(25));
-    }
-    if !entries_hold(s, index, Section::BOUNDARY_OUTPUTS) || !names_differ(s, index) {
-        return Err(Question(26));
-    }
-    Ok(())
+    let end = room_start(s, index);
+    let (tables, room) = index.split_at_mut(end);
+    ask_boundaries(s, tables, room)
 }

@@ -1,64 +1,45 @@
 // What is asked of the entries together: that keys are all different, or those of a section, each once.
-ghost use Rattle.std.specs.Prelude.{◌≡◌, [], map, ◌+◌, ◌-◌, ◌≤◌, length};
-ghost use Rattle.state.specs.Bytes.{span};
+ghost use Rattle.std.specs.Prelude.{◌≡◌, true, ◌&&◌, map, ◌+◌, ◌≤◌, length};
 ghost use Rattle.format.specs.Lists.{all_different};
 ghost use Rattle.format.specs.Manifest.{numbered};
+ghost use Rattle.questions.specs.Sets.{all, all_in};
 ghost use Rattle.state_index.specs.Keys.{text_at};
-ghost use Rattle.state_index.specs.Sort.{Kept};
-ghost use Rattle.state_layout.specs.Marks.{keys_at, Keyed, Marked};
-ghost use Rattle.state_references.specs.Met.{MarksAll};
+ghost use Rattle.state_layout.specs.Keys.{keys_of};
+ghost use Rattle.state_layout.specs.Marks.{is_set};
 
-use state_index::{Table, all_distinct, clear, key_part, word_at};
-use state_layout::marks::mark_new;
+use state_index::{key_part, words};
+use state_layout::keys::Keys;
 
-// Sets the marks of a section's entries whose keys stand at the words that another section lists; stops with no at a key that is unknown or
-// was met before.
-fn mark_all(
-    s: &[u8],
-    index: &mut [u32],
-    section: u8,
-    listed: Table,
-    table: Table,
-    marks: usize,
+// Are the keys that stand at words known and all different? Marks those that are met; stops at one that is unknown or was met before.
+#[tactic(auto, using(crate::proofs::Meeting::meets_start, crate::proofs::Meeting::meets_next, crate::proofs::Meeting::meets_stop, crate::proofs::Meeting::meets_all, crate::proofs::Meeting::meets_marked))]
+pub(crate) fn all_new<const SECTION: u8>(
+    keys: Keys<SECTION>,
+    marks: &mut [u32],
+    listed: &[u32],
 ) -> bool
-    requires marked { Marked (numbered section) s.now index.old table.from table.to marks [] }
-    requires listed_le_marks { listed.to ≤ marks }
-    ensures { MarksAll (numbered section) s.now table.from table.to marks (keys_at (numbered section) s.now index.old listed.from listed.to) result index.old index.new }
+    requires { length marks.old ≡ length keys.words.now }
+    ensures answer { result ≡ (all_in (keys_of (numbered SECTION) keys.entry.s.now listed.now) (keys_of (numbered SECTION) keys.entry.s.now keys.entry.words.now) && all_different (keys_of (numbered SECTION) keys.entry.s.now listed.now)) }
+    ensures marked { result ≡ true → all is_set marks.new ≡ all_in (keys_of (numbered SECTION) keys.entry.s.now keys.entry.words.now) (keys_of (numbered SECTION) keys.entry.s.now listed.now) }
 {
-    let mut hint = table.from;
-    for i in listed.from..listed.to {
-        let key = key_part(s, section, word_at(index, i));
-        let Some(w) = mark_new(s, section, index, table, marks, key, hint) else {
+    marks.fill(0);
+    // Not a `try_fold` as in lib.rt: of marks that a closure changes nothing is known behind it.
+    let mut hint = 0;
+    for word in listed {
+        let key = key_part(keys.s, SECTION, *word as usize);
+        let Some(i) = keys.mark_new(marks, key, hint) else {
             return false;
         };
-        hint = w + 1;
+        hint = i.saturating_add(1);
     }
     true
 }
 
-// Are the keys that another section lists known and all different?
-pub(crate) fn all_new(
-    s: &[u8],
-    index: &mut [u32],
-    section: u8,
-    listed: Table,
-    table: Table,
-    marks: usize,
-) -> bool
-    requires keyed { Keyed (numbered section) s.now index.old table.from table.to marks }
-    requires listed_le_marks { listed.to ≤ marks }
-    ensures { MarksAll (numbered section) s.now table.from table.to marks (keys_at (numbered section) s.now index.old listed.from listed.to) result index.old index.new }
+// Are the texts at words all different? Twice as many words are room.
+pub(crate) fn texts_differ(s: &[u8], names: &[u32], room: &mut [u32]) -> bool
+    requires { length names.now + length names.now ≤ length room.old }
+    ensures { result ≡ all_different (map (text_at s.now) names.now) }
 {
-    clear(index, marks, marks + (table.to - table.from));
-    mark_all(s, index, section, listed, table, marks)
-}
-
-// Are the texts that a table lists all different? Twice as many words from `room` on are room.
-pub(crate) fn texts_differ(s: &[u8], index: &mut [u32], names: Table, room: usize) -> bool
-    requires { (names.from ≤ names.to) × (names.to ≤ room) × (room + (names.to - names.from) + (names.to - names.from) ≤ length index.old) }
-    ensures value { result ≡ all_different (map (text_at s.now) (span index.old names.from names.to)) }
-    ensures kept { Kept room (room + (names.to - names.from) + (names.to - names.from)) index.old index.new }
-{
-    index.copy_within(names.from..names.to, room);
-    all_distinct(s, index, room, names.to - names.from)
+    let n = names.len();
+    room[..n].copy_from_slice(names);
+    words::all_distinct(s, room, n)
 }

@@ -1,18 +1,13 @@
-use native.Mathlib.Omega.{arith}
-use Rattle.state_layout.proofs.Indexed.{start-le, table-connectors}
-use Rattle.state_layout.proofs.Names.{names-connectors}
-use Rattle.state_references.proofs.Placed.{end-there, keyed-connectors}
+use mathlib.Core.Path.{◌∙◌}
+use Rattle.std.proofs.Common.{rules}
+use Rattle.std.proofs.lemmas.Iterator.{YieldsList-from_slice}
+use Rattle.state_references.specs.Known.{names_of}
+use Rattle.state_references.proofs.Telling.{walked}
+use Rattle.state_references.proofs.Answered.{names-known}
 use Rattle.state_references.proofs.entries_hold.Goals as goal
 
-pub all_hold-requires : goal.all_hold-requires
-all_hold-requires c =
-    let t = c.requires.tabled in
-    record {
-      keyed = rw c.table_at-connectors.ensures (keyed-connectors t _ (omega arith) (start-le _ 5 (omega arith)));
-      in_bounds = end-there t c.requires.section_bound c.table_at-entries.ensures;
-    }
-
 pub returns : goal.returns
-returns c =
-    let t = c.requires.tabled in
-    rw (c.table_at-connectors.ensures, c.table_at-entries.ensures, names-connectors t.bytes (table-connectors t)) at c.all_hold.ensures
+returns g c =
+    c.is_some.ensures
+    ∙ walked (g.test c.args.s.now (names_of c.args.s.now c.keys_of-known.result.words.now)) _ _ _ _ c.try_fold.ensures.ran (YieldsList-from_slice _ c.iter.ensures.rest) (λ a x o q k. search rules)
+    ∙ rw (c.keys_of-known.ensures.1, c.table_of.ensures, names-known c.requires.1.0)

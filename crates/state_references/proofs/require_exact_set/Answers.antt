@@ -1,9 +1,15 @@
-use Rattle.state_references.proofs.Placed.{each-not, each_all}
+use mathlib.Core.Path.{sym, ◌∙◌}
+use Rattle.state_references.proofs.Meeting.{once-is}
 use Rattle.state_references.proofs.require_exact_set.Goals as goal
 
-pub returns-then-not-all_listed_new-clause-value : goal.returns-then-not-all_listed_new-clause-value
-returns-then-not-all_listed_new-clause-value c = (each-not c.requires c.all_listed_new.ensures c.if-not-all_listed_new.true).0
+pub returns-then-all_new : goal.returns-then-all_new
+returns-then-all_new g c =
+    let n = c.all_new.ensures in
+    c.all_marked.ensures ∙ n.marked c.if-all_new.true
+    ∙ rw (c.keys_of-keys.ensures.0, c.keys_of-keys.ensures.1, c.table_of-2.ensures)
+    (sym (once-is _ _ ∙ rw (← (rw (c.keys_of-keys.ensures.0, c.keys_of-keys.ensures.1, c.table_of-2.ensures) at n.answer), c.if-all_new.true)))
 
-pub returns-clause-value : goal.returns-clause-value
-returns-clause-value c =
-    (each_all c.requires c.all_listed_new.ensures c.if-not-all_listed_new.false c.table_start-marks.ensures c.count_of.ensures c.all_marked.ensures).0
+pub returns-else-all_new : goal.returns-else-all_new
+returns-else-all_new g c =
+    let n = rw (c.keys_of-keys.ensures.0, c.keys_of-keys.ensures.1, c.table_of-2.ensures) at c.all_new.ensures.answer in
+    sym (once-is _ _ ∙ rw (← n, c.if-all_new.false))

@@ -1,11 +1,15 @@
-use Rattle.state_references.proofs.Meeting.{cleared-first}
-use Rattle.state_layout.proofs.Marked.{marked_start}
+use native.Mathlib.Omega.{arith}
+use Rattle.state_references.proofs.Meeting.{meets_next, meets_stop, meets_all, meets_marked}
 use Rattle.state_references.proofs.sets.all_new.Goals as goal
 
-pub mark_all-requires : goal.mark_all-requires
-mark_all-requires c =
-    record { marked = marked_start c.requires.keyed c.clear.ensures; listed_le_marks = c.requires.listed_le_marks }
+pub returns-in_default-clause-answer : goal.returns-in_default-clause-answer
+returns-in_default-clause-answer g c = meets_stop c.loop-word.invariant (omega arith) c.key_part-key.ensures c.mark_new.ensures c.in_default.is
 
-pub returns : goal.returns
-returns c =
-    cleared-first _ c.requires.keyed c.requires.listed_le_marks c.clear.ensures c.mark_all.ensures
+pub loop-word-preserved : goal.loop-word-preserved
+loop-word-preserved g c = meets_next c.loop-word.invariant (omega arith) c.key_part-key.ensures c.mark_new.ensures c.in-Some.is
+
+pub returns-clause-answer : goal.returns-clause-answer
+returns-clause-answer g c = meets_all c.loop-word.invariant (omega arith)
+
+pub returns-clause-marked : goal.returns-clause-marked
+returns-clause-marked g c = λ _. meets_marked c.loop-word.invariant (omega arith)
