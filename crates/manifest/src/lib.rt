@@ -7,7 +7,6 @@ ghost use Rattle.questions.specs.Answers.{offset_at, outside, starts_of, decode_
 ghost use Rattle.manifest.specs.Judges.{Judges};
 
 use state::{Decoded, Refusal, Starts, Step};
-use state_index::clear;
 use state_manifest_codec::read_manifest;
 use state_manifest_validation::validate_manifest;
 use state_wire::offset;
@@ -43,7 +42,7 @@ pub fn refused(base: u64, refusal: Refusal<usize>, index: &mut [u32]) -> Refusal
     ensures index_after { index.new ≡ cond (eqb refusal.question.0 2) index.old (replicate (length index.old) 0) }
 {
     if refusal.question.0 != INDEX_LENGTH {
-        clear(index, 0, index.len());
+        index.fill(0);
     }
     refusal.question.at(offset_at(base, refusal))
 }
@@ -55,7 +54,7 @@ pub fn accepted(index: &mut [u32]) -> Starts
     ensures index_after { index.new ≡ take 12 index.old ++ replicate (length index.old - 12) 0 }
 {
     let starts = starts_of(index);
-    clear(index, 12, index.len());
+    index[12..].fill(0);
     starts
 }
 

@@ -22,7 +22,7 @@ use compare::{compare_sections, section_start};
 use manifest::decode_manifest;
 use state::{Question, Refusal, Section, SideRefusal, Units, Verdict};
 use state_index::keys::{block_key_end, count_at, number_at};
-use state_index::{ahead, clear};
+use state_index::ahead;
 
 // The word total of the slots whose count stands at a position: the largest end.
 pub fn state_words(s: &[u8], at: usize) -> u64
@@ -52,7 +52,7 @@ fn count_units(s: &[u8], index: &mut [u32]) -> Result<Units, Refusal<u64>>
     // std has no From between usize and u64; both are 64 bits wide here.
     let connectors = count_at(s, section_start(index, Section::CONNECTORS)) as u64;
     if (u64::MAX - connectors) / 4 < words {
-        clear(index, 0, index.len());
+        index.fill(0);
         return Err(Question(39).at(0));
     }
     Ok(Units {

@@ -12,7 +12,7 @@ use crate::entries::{
 use crate::layouts::{Asked, layout_of};
 use crate::lists::{in_order, read_connector_keys, read_count, read_parameters};
 use state::{Question, Section, Step};
-use state_index::all_distinct;
+use state_index::words::all_distinct;
 use state_key_order::{read_block_key, read_connector_key};
 use state_wire::{part, string};
 
@@ -40,7 +40,7 @@ fn read_members(s: &[u8], at: usize, scratch: &mut [u32]) -> Step
     let (n, first) = read_count(s, at, 4)?;
     let count = n as usize;
     let last = read_names(s, first, &mut scratch[..count])?;
-    if all_distinct(s, scratch, 0, count) {
+    if all_distinct(s, scratch, count) {
         Ok(last)
     } else {
         Err(Question(8).at(last))
