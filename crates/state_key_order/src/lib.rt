@@ -2,7 +2,7 @@
 #![tactic(auto)]
 
 ghost use Rattle.std.specs.Prelude.{◌≡◌};
-ghost use Rattle.format.specs.Format.{scan};
+ghost use Rattle.format.specs.Format.{Fmt, scan};
 ghost use Rattle.format.specs.Lists.{before, same};
 ghost use Rattle.state_wire.specs.Fields.{max_snapshot_bytes};
 ghost use Rattle.format.specs.Keys.{block_key, connector_key};
@@ -10,9 +10,9 @@ ghost use Rattle.state_key_order.specs.Compare.{block_keys_compared, connector_k
 
 use order::Compared;
 use state::{BlockKey, Refusal, Step, WireDir};
-use state_wire::{part, read_number, read_tag, step_of, string};
+use state_wire::{part, read_tag, string, take};
 
-// Which of two keys is no whole one, with question and position.
+// Which of two keys is no whole one, with question and position. Beside `SideRefusal` of state: each names its two sides in its own words.
 #[derive(Clone, Copy, PartialEq, Eq)]
 pub enum KeyRefusal {
     Left(Refusal<usize>),
@@ -40,18 +40,12 @@ pub fn same_bytes(left: &[u8], right: &[u8]) -> bool
 pub fn read_block_key(s: &[u8], at: usize) -> Step
     ensures { result ≡ scan max_snapshot_bytes block_key s.now at }
 {
-    let tag = read_tag(s, at, BlockKey::KNOWN);
-    let Ok((t, first)) = tag else {
-        return step_of(tag);
-    };
-    let name = string(s, first);
-    let authored = t == BlockKey::AUTHORED;
+    let (tag, first) = read_tag(s, at, BlockKey::KNOWN)?;
+    let second = string(s, first)?;
+    let authored = tag == BlockKey::AUTHORED;
     if authored {
-        return name;
+        return Ok(second);
     }
-    let Ok(second) = name else {
-        return name;
-    };
     string(s, second)
 }
 
@@ -59,30 +53,27 @@ pub fn read_block_key(s: &[u8], at: usize) -> Step
 pub fn read_connector_key(s: &[u8], at: usize) -> Step
     ensures { result ≡ scan max_snapshot_bytes connector_key s.now at }
 {
-    let owner = read_block_key(s, at);
-    let Ok(m) = owner else {
-        return owner;
-    };
-    let direction = step_of(read_tag(s, m, WireDir::KNOWN));
-    let Ok(n) = direction else {
-        return direction;
-    };
-    step_of(read_number::<4>(s, n))
+    let direction = read_block_key(s, at)?;
+    let (_, port) = read_tag(s, direction, WireDir::KNOWN)?;
+    take(s, port, 4)
 }
 
-// Two keys that were walked over, from at and from on.
-fn compare_walked(
+// Two keys of one format, by what reads it, at two positions of lent bytes.
+fn compare_keys<R: Fn(&[u8], usize) -> Step>(
+    read: R,
     left: &[u8],
     at: usize,
-    l: Step,
     right: &[u8],
     from: usize,
-    r: Step,
 ) -> KeysCompared
-    ensures { result ≡ spans_compared left.now at l right.now from r }
+    ghost key: { Fmt }
+    requires callable { R.IsAlwaysCallable read }
+    requires reads_left { (p r : _) → R.post read left p r → r ≡ scan max_snapshot_bytes key left.now p }
+    requires reads_right { (p r : _) → R.post read right p r → r ≡ scan max_snapshot_bytes key right.now p }
+    ensures { result ≡ spans_compared left.now at (scan max_snapshot_bytes key left.now at) right.now from (scan max_snapshot_bytes key right.now from) }
 {
-    let e = l.map_err(KeyRefusal::Left)?;
-    let f = r.map_err(KeyRefusal::Right)?;
+    let e = read(left, at).map_err(KeyRefusal::Left)?;
+    let f = read(right, from).map_err(KeyRefusal::Right)?;
     Ok(order::compare(part(left, at, e), part(right, from, f)))
 }
 
@@ -90,16 +81,12 @@ fn compare_walked(
 pub fn compare_block_keys(left: &[u8], at: usize, right: &[u8], from: usize) -> KeysCompared
     ensures { result ≡ block_keys_compared left.now at right.now from }
 {
-    let l = read_block_key(left, at);
-    let r = read_block_key(right, from);
-    compare_walked(left, at, l, right, from, r)
+    compare_keys(read_block_key, left, at, right, from)
 }
 
 // The connector keys at two positions of lent bytes.
 pub fn compare_connector_keys(left: &[u8], at: usize, right: &[u8], from: usize) -> KeysCompared
     ensures { result ≡ connector_keys_compared left.now at right.now from }
 {
-    let l = read_connector_key(left, at);
-    let r = read_connector_key(right, from);
-    compare_walked(left, at, l, right, from, r)
+    compare_keys(read_connector_key, left, at, right, from)
 }
