@@ -90,6 +90,17 @@ abbrev pub located : ℕ → Result Unit Question → Result Unit (Refusal ℕ)
 located n (Ok u) = Ok u
 located n (Err q) = Err (record { question = q; at = n })
 
+pub located-no : (n : ℕ) (v : Result Unit Question) {m : Result Unit (Refusal ℕ)} {d : Refusal ℕ} → m ≡ located n v → m ≡ Err d → (q : Question) × (v ≡ Err q) × (d ≡ record { question = q; at = n })
+located-no n (Ok u) l e = cc (sym l ∙ e)
+located-no n (Err q) {d = d} l e =
+    let z : ◌≡◌ {A = Result Unit (Refusal ℕ)} (Err (record { question = q; at = n })) (Err d) = sym l ∙ e in
+    let i : d ≡ record { question = q; at = n } = cc in
+    (q, refl, i)
+
+pub located-yes : (n : ℕ) (v : Result Unit Question) {m : Result Unit (Refusal ℕ)} {u : Unit} → m ≡ located n v → m ≡ Ok u → v ≡ Ok tt
+located-yes n (Ok u) l e = refl
+located-yes n (Err q) l e = cc (sym l ∙ e)
+
 -- the first words of the tables are the starts
 pub tabled-starts : {s index : List ℕ} → Tabled s index → (12 ≤ length index) × (take 12 index ≡ manifest_starts limit s)
 tabled-starts {s} {index} t =
@@ -117,7 +128,7 @@ module _ {s old new : List ℕ} (revision : ℕ) {r : Stepped} (reads : Reads s 
     judge-is = rw (read_is bytes reads next)
 
     -- refused by a question over the whole
-    judge-no : {d : Question} → Err d ≡ said (first_failing target_bound_classes revision (manifest_of s)) → Judges s revision (Err (record { question = d; at = n })) old last
+    pub judge-no : {d : Question} → Err d ≡ said (first_failing target_bound_classes revision (manifest_of s)) → Judges s revision (Err (record { question = d; at = n })) old last
     judge-no {d = d} asks = record {
       is = rw judge-is (ap (λ (x : ℕ). Err (refusal x n)) (sym no.0) ∙ heed-no (first_failing target_bound_classes revision (manifest_of s)) n _ no.1);
       tabled = λ k i. cc;
@@ -132,22 +143,10 @@ module _ {s old new : List ℕ} (revision : ℕ) {r : Stepped} (reads : Reads s 
         late = late-failing target_bound_classes revision (manifest_of s) no.1
 
     -- accepted
-    judge-yes : {u : Unit} → Ok u ≡ said (first_failing target_bound_classes revision (manifest_of s)) → Judges s revision (Ok n) old last
+    pub judge-yes : {u : Unit} → Ok u ≡ said (first_failing target_bound_classes revision (manifest_of s)) → Judges s revision (Ok n) old last
     judge-yes asks = record {
       is = rw (judge-is, said-yes (first_failing target_bound_classes revision (manifest_of s)) (sym asks));
       tabled = λ k i. leaves.tabled;
       untouched = λ x i. cc;
       long = leaves.long ∙ reads.long;
     }
-
-    -- as code hears them: the question's refusal is passed on
-    pub judge-stops : (v : Result Unit Question) → v ≡ said (first_failing target_bound_classes revision (manifest_of s)) → {m : Result Unit (Refusal ℕ)} → m ≡ located n v → {d : Refusal ℕ} → m ≡ Err d → Judges s revision (Err d) old last
-    judge-stops (Ok u) asks l e = cc (sym l ∙ e)
-    judge-stops (Err q) asks l {d} e =
-        let z : ◌≡◌ {A = Result Unit (Refusal ℕ)} (Err (record { question = q; at = n })) (Err d) = sym l ∙ e in
-        let i : record { question = q; at = n } ≡ d = cc in
-        subst (λ (x : Refusal ℕ). Judges s revision (Err x) old last) i (judge-no asks)
-
-    pub judge-goes : (v : Result Unit Question) → v ≡ said (first_failing target_bound_classes revision (manifest_of s)) → {m : Result Unit (Refusal ℕ)} → m ≡ located n v → {u : Unit} → m ≡ Ok u → Judges s revision (Ok n) old last
-    judge-goes (Ok u) asks l e = judge-yes asks
-    judge-goes (Err q) asks l e = cc (sym l ∙ e)

@@ -14,54 +14,39 @@ ghost use Rattle.state_layout.specs.Tables.{manifest_of};
 ghost use Rattle.state_codec.specs.Listed.{Asked};
 
 use manifest::{accepted, judge, refused};
-use state::{Decoded, MAX_SNAPSHOT_BYTES, Question, Refusal, Step};
+use state::{Decoded, MAX_SNAPSHOT_BYTES, Question, Section, Step};
 use state_index::word_at;
 use state_manifest::state_words;
-use state_wire::{bounded_count, offset, read_number, step_of};
+use state_wire::{bounded_count, offset, read_number};
 use values::{read_values, validate_values};
 
 // The word count and the words, and question 37. The words are passed over: the count was held against what is left.
+#[tactic(auto, using(crate::proofs::Words::worded))]
 fn read_words(t: &[u8], at: usize, total: u64) -> Step
     ensures { result ≡ step_of (read_words total t.now at) }
 {
-    let number = read_number::<8>(t, at);
-    let Ok((n, next)) = number else {
-        return step_of(number);
-    };
-    let count = bounded_count(t, next, n, 8);
-    let Ok((words, first)) = count else {
-        return step_of(count);
-    };
+    let (n, next) = read_number::<8>(t, at)?;
+    let (words, first) = bounded_count(t, next, n, 8)?;
     if words != total {
-        return Err(Refusal {
-            question: Question(37),
-            at,
-        });
+        return Err(Question(37).at(at));
     }
+    // std has no `From` between `u64` and `usize`.
     Ok(first + 8 * words as usize)
 }
 
 // The flags and the end of the tail: questions 38 and 10.
+#[tactic(auto, using(crate::proofs::Words::flags_is))]
 fn read_flags(t: &[u8], at: usize) -> Step
     ensures { result ≡ step_of (read_flags t.now at) }
 {
-    let flags = read_number::<4>(t, at);
-    let Ok((f, next)) = flags else {
-        return step_of(flags);
-    };
-    if f != 0 {
-        return Err(Refusal {
-            question: Question(38),
-            at,
-        });
+    let (flags, next) = read_number::<4>(t, at)?;
+    if flags != 0 {
+        return Err(Question(38).at(at));
     }
     if next == t.len() {
         Ok(next)
     } else {
-        Err(Refusal {
-            question: Question(10),
-            at: next,
-        })
+        Err(Question(10).at(next))
     }
 }
 
@@ -71,25 +56,18 @@ fn read_tail(s: &[u8], index: &[u32], t: &[u8]) -> Step
     requires are_bytes { AreBytes t.now }
     ensures { result ≡ step_of (read_tail (manifest_of s.now) t.now) }
 {
-    let values = read_values(t);
-    let Ok(p) = values else {
-        return values;
-    };
-    if let Err(question) = validate_values(s, index, t) {
-        return Err(Refusal { question, at: p });
-    }
-    let words = read_words(t, p, state_words(s, word_at(index, 8)));
-    let Ok(q) = words else {
-        return words;
-    };
-    read_flags(t, q)
+    let words = read_values(t)?;
+    validate_values(s, index, t).map_err(|question| question.at(words))?;
+    let slots = word_at(index, usize::from(Section::STATE_SLOTS) - 1);
+    let flags = read_words(t, words, state_words(s, slots))?;
+    read_flags(t, flags)
 }
 
 // Question 1 of a manifest and its tail.
 fn too_long(n: usize, t: usize) -> bool
     ensures { result ≡ not (leb (n + t) max_snapshot_bytes) }
 {
-    MAX_SNAPSHOT_BYTES < n || MAX_SNAPSHOT_BYTES - n < t
+    MAX_SNAPSHOT_BYTES < n.saturating_add(t)
 }
 
 // Reads a manifest and the tail behind it and asks all questions about them. The index is the manifest's, and left as `decode_manifest` leaves it.
@@ -104,11 +82,7 @@ pub fn decode_snapshot(
     ensures index_after { index.new ≡ snapshot_index target_bound_classes bytes.now tail.now revision index.old }
 {
     if too_long(bytes.len(), tail.len()) {
-        let refusal = Refusal {
-            question: Question(1),
-            at: 0,
-        };
-        return Err(refused(base, refusal, index));
+        return Err(refused(base, Question(1).at(0), index));
     }
     if let Err(refusal) = judge(bytes, revision, index) {
         return Err(refused(base, refusal, index));

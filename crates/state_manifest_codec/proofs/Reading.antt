@@ -19,7 +19,7 @@ abbrev pub chosen : NumberRead → (ℕ → ℕ → Stepped) → Stepped
 chosen (Ok f) k = k f.0 f.1
 chosen (Err e) k = Err e
 
-step-chosen : {A : Type 0} (o : Outcome ℕ) (f : ℕ → ℕ → Outcome A) (k : ℕ → ℕ → Stepped) → ((t m : ℕ) → step_of (f t m) ≡ k t m) → step_of (bind o f) ≡ chosen (field_of o) k
+pub step-chosen : {A : Type 0} (o : Outcome ℕ) (f : ℕ → ℕ → Outcome A) (k : ℕ → ℕ → Stepped) → ((t m : ℕ) → step_of (f t m) ≡ k t m) → step_of (bind o f) ≡ chosen (field_of o) k
 step-chosen (got t m) f k h = h t m
 step-chosen (refused q p) f k h = refl
 

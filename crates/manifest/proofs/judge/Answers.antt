@@ -1,7 +1,7 @@
-use mathlib.Core.Path.{◌≡◌}
+use mathlib.Core.Path.{◌≡◌, sym, ◌∙◌}
 use Rattle.std.proofs.Common.{rules}
 use Rattle.state_manifest_codec.proofs.Reading.{passed_on}
-use Rattle.manifest.proofs.Judging.{located, read-tabled, judge-unread, judge-stops, judge-goes}
+use Rattle.manifest.proofs.Judging.{located, located-no, located-yes, read-tabled, judge-unread, judge-no, judge-yes}
 use Rattle.manifest.proofs.judge.Goals as goal
 
 pub returns-in_err-end : goal.returns-in_err-end
@@ -13,9 +13,10 @@ validate_manifest-requires c = read-tabled (λ i. (c.type_inv.s i).fits) c.read_
 pub returns-in_err-map_err : goal.returns-in_err-map_err
 returns-in_err-map_err c =
     let e : c.map_err.result ≡ located c.in_ok-end.end c.validate_manifest.result = search rules in
-    rw (passed_on c.from_residual-in_err-map_err.ensures.1) (judge-stops _ c.read_manifest.ensures (λ i. (c.type_inv.s i).fits) c.in_ok-end.was c.validate_manifest.ensures.leaves _ c.validate_manifest.ensures.value e c.in_err-map_err.was)
+    let n = located-no _ _ e c.in_err-map_err.was in
+    rw (passed_on c.from_residual-in_err-map_err.ensures.1, n.2) (judge-no _ c.read_manifest.ensures (λ i. (c.type_inv.s i).fits) c.in_ok-end.was c.validate_manifest.ensures.leaves (sym n.1 ∙ c.validate_manifest.ensures.value))
 
 pub returns : goal.returns
 returns c =
     let e : c.map_err.result ≡ located c.in_ok-end.end c.validate_manifest.result = search rules in
-    judge-goes _ c.read_manifest.ensures (λ i. (c.type_inv.s i).fits) c.in_ok-end.was c.validate_manifest.ensures.leaves _ c.validate_manifest.ensures.value e c.in_ok-map_err.was
+    judge-yes _ c.read_manifest.ensures (λ i. (c.type_inv.s i).fits) c.in_ok-end.was c.validate_manifest.ensures.leaves (sym (located-yes _ _ e c.in_ok-map_err.was) ∙ c.validate_manifest.ensures.value)

@@ -3,7 +3,7 @@ use Rattle.state_codec.proofs.decode_snapshot.Goals as goal
 
 pub returns-then-too_long : goal.returns-then-too_long
 returns-then-too_long c =
-    let p = ends-long _ _ _ _ _ c.too_long.ensures c.if-too_long.true c.refused.ensures.value c.refused.ensures.index_after in record { value = p.0; index_after = p.1 }
+    let p = ends-long _ _ _ _ _ c.too_long.ensures c.if-too_long.true (rw c.at.ensures at c.refused.ensures.value) (rw c.at.ensures at c.refused.ensures.index_after) in record { value = p.0; index_after = p.1 }
 
 pub returns-in-Err : goal.returns-in-Err
 returns-in-Err c =
