@@ -1,12 +1,10 @@
--- Laws of the definitions: `Order` of keys, `Lists` of parts and stores, `Sorting` of what the library sorts and of different keys, `Lent` of a
--- part that was lent, `Texts` of texts and numbers, `Slots` and `Sieve` of a sift, `Sections` of keys, `Search` of a search.
+-- Laws of the definitions: `Order` of keys, `Lists` of a run, `Sorting` of what the library sorts and of different keys, `Texts` of texts and
+-- numbers, `Slots` and `Sieve` of a sift, `Sections` of keys, `Search` of a search.
 pub mod Order
 pub mod Lists
 pub mod Sorting
-pub mod Lent
 pub mod Texts
 pub mod Slots
 pub mod Sieve
 pub mod Sections
 pub mod Search
-pub mod Halving

@@ -28,7 +28,7 @@ fn number<const W: usize>(s: &[u8], at: usize) -> u64
     }
 }
 
-// The number of the four bytes at a position; 0 where there are fewer.
+// The number of the four bytes at a position; 0 where there are fewer. A cast: `usize` has no `From<u64>`.
 pub fn count_at(s: &[u8], at: usize) -> usize
     ensures { result ≡ number_at 4 s.now at }
 {

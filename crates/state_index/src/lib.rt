@@ -1,27 +1,21 @@
-// The lent index: words that are positions of the bytes. Clearing, sorting and looking up.
+// What stands at the positions that the words of the lent index say: texts, and the keys of entries.
 #![tactic(auto)]
 
-pub mod hints;
+mod hints;
 pub mod keys;
 mod positions;
 mod sift;
 pub mod words;
 
-ghost use Rattle.std.specs.Prelude.{◌≡◌, ◌++◌, map, ◌+◌, ◌-◌, ◌≤◌, ◌<◌, min, length, take, drop, get_or, replicate};
-ghost use Rattle.state.specs.Bytes.{span};
-ghost use Rattle.format.specs.Lists.{all_different};
+ghost use Rattle.std.specs.Prelude.{◌≡◌, ◌+◌, ◌<◌, min, length, get_or};
 ghost use Rattle.format.specs.Format.{text};
 ghost use Rattle.format.specs.Manifest.{numbered};
 ghost use Rattle.format.specs.Places.{past, key_at};
-ghost use Rattle.state_index.specs.Keys.{text_at, at_most};
-ghost use Rattle.state_index.specs.Sort.{Ordered, SortedIn, Kept};
-ghost use Rattle.state_index.specs.Find.{key_at_most, Finds};
+ghost use Rattle.state_index.specs.Keys.{text_at};
 
-use hints::{find_hinted, has_key};
 use keys::{block_key_end, connector_key_end, count_at};
 use state::Section;
 use state_wire::{part, remaining};
-use std::cmp::Ordering;
 
 // What positions are sorted by.
 #[derive(Clone, Copy, PartialEq, Eq)]
@@ -30,21 +24,6 @@ pub enum SortKey {
     Text,
     // The number of the eight bytes there.
     Number,
-}
-
-// Where a section's table lies: the words from..to of the index, which say where its entries start.
-#[derive(Clone, Copy)]
-pub struct Table {
-    pub from: usize,
-    pub to: usize,
-}
-
-// Sets the words from..to to 0.
-pub fn clear(index: &mut [u32], from: usize, to: usize)
-    requires { (from ≤ to) × (to ≤ length index.old) }
-    ensures { index.new ≡ take from index.old ++ (replicate (to - from) 0 ++ drop to index.old) }
-{
-    index[from..to].fill(0);
 }
 
 // A position n bytes further on, or the end of the bytes.
@@ -74,24 +53,6 @@ pub fn text_part(s: &[u8], at: usize) -> &[u8]
     part(s, ahead(s, at, 4), text_end(s, at))
 }
 
-// Sorts the `count` words from `from` on.
-pub fn sort(s: &[u8], kind: SortKey, index: &mut [u32], from: usize, count: usize)
-    requires { from + count ≤ length index.old }
-    ensures { SortedIn (at_most kind s.now) from count index.old index.new }
-{
-    words::sort(s, kind, &mut index[from..from + count]);
-}
-
-// Are the texts at the `count` words from `from` on all different? The words behind are room.
-pub fn all_distinct(s: &[u8], index: &mut [u32], from: usize, count: usize) -> bool
-    requires { from + count + count ≤ length index.old }
-    ensures value { result ≡ all_different (map (text_at s.now) (span index.old from (from + count))) }
-    ensures kept { Kept from (from + count + count) index.old index.new }
-{
-    let end = from + count + count;
-    words::all_distinct(s, &mut index[from..end], count)
-}
-
 // Where the key of an entry of a section ends that starts at a position.
 pub fn key_end(s: &[u8], section: u8, at: usize) -> usize
     ensures { result ≡ past (numbered section).key s.now at }
@@ -107,7 +68,9 @@ pub fn key_end(s: &[u8], section: u8, at: usize) -> usize
     }
 }
 
-// The bytes that this key is ranked by.
+// The bytes that this key is ranked by. The section is a number, as some callers have no constant (`fill_hints` of state_layout); inlined, since
+// else a look-up among connectors, whose section is a constant, makes the match at each turn.
+#[inline]
 pub fn key_part(s: &[u8], section: u8, at: usize) -> &[u8]
     ensures { result.now ≡ key_at (numbered section) s.now at }
 {
@@ -129,51 +92,4 @@ pub fn word_at(index: &[u32], i: usize) -> usize
     ensures { result ≡ get_or index.now i 0 }
 {
     position(index[i])
-}
-
-impl Table {
-    // Halves the table, whose entries stand in order, until it has the key's word or none is left. By the library's `binary_search_by`, which
-    // goes on where it has met the key, a look-up was a tenth to a quarter slower.
-    fn binary_search(self, s: &[u8], section: u8, index: &[u32], key: &[u8]) -> Option<usize>
-        requires to_in_bounds { self.to ≤ length index.now }
-        requires ordered { Ordered (key_at_most (numbered section) s.now) (span index.now self.from self.to) }
-        ensures { Finds (numbered section) s.now index.now self.from self.to key.now result }
-    {
-        let mut low = self.from;
-        let mut high = self.to;
-        while low < high {
-            let w = low + (high - low) / 2;
-            let c = order::compare(key, key_part(s, section, word_at(index, w)));
-            match c.order {
-                Ordering::Less => high = w,
-                Ordering::Equal => return Some(w),
-                Ordering::Greater => low = w + 1,
-            }
-        }
-        None
-    }
-
-    // The word of the table, whose entries stand in order, that has the key: the word `hint` is tried first, then those that the hints at the
-    // end of the index name, and then all are searched.
-    #[tactic(auto, using(crate::proofs::Search::finds_key))]
-    pub fn find(
-        self,
-        s: &[u8],
-        section: u8,
-        index: &[u32],
-        key: &[u8],
-        hint: usize,
-    ) -> Option<usize>
-        requires to_in_bounds { self.to ≤ length index.now }
-        requires ordered { Ordered (key_at_most (numbered section) s.now) (span index.now self.from self.to) }
-        ensures { Finds (numbered section) s.now index.now self.from self.to key.now result }
-    {
-        if has_key(s, section, index, self, key, hint) {
-            return Some(hint);
-        }
-        if let Some(w) = find_hinted(s, section, index, self, key) {
-            return Some(w);
-        }
-        self.binary_search(s, section, index, key)
-    }
 }

@@ -39,7 +39,7 @@ fn mark_of(t: &[u8]) -> u64
     mix(number_at(t, 0)) / 2 + mix(number_at(t, t.len() - 8))
 }
 
-// The slot, of m, of the text at a position.
+// The slot, of m, of the text at a position. A cast: `usize` has no `From<u64>`.
 #[tactic(auto, unfolding(crate::specs::Sift::slot_at))]
 fn slot_at(s: &[u8], m: usize, p: u32) -> usize
     requires { 0 < m }

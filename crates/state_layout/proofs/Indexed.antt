@@ -17,7 +17,6 @@ use Rattle.format.proofs.Places.{end-got}
 use Rattle.format.proofs.Sizes.{sections-take}
 use Rattle.format.proofs.Values.{values_length, well-then}
 use Rattle.state_index.proofs.Lists.{slice-run}
-use Rattle.state_index.specs.Sort.{Kept}
 use Rattle.questions.specs.Sets.{sum}
 use Rattle.state_layout.specs.Tables.{manifest_of, counts, table_start, table_of, room_start, room_end, Laid, Tabled, Table, Leaves}
 use Rattle.state_layout.proofs.Tables.{limit, Tables, lists-tables, pick, picked, span-after, table-picked}

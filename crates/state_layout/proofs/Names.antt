@@ -1,11 +1,11 @@
 -- The keys of a section's entries, as they stand and as they are written.
-use Prim.Native.Nat.{ℕ, zero, suc, ◌+◌, ◌-◌, ◌≤◌, ◌<◌}
+use Prim.Native.Nat.{ℕ, zero, suc, ◌≤◌, ◌<◌}
 use native.Mathlib.Omega.{arith}
 use mathlib.Core.Path.{◌≡◌, refl, ap, ◌∙◌}
 use mathlib.Core.Bool.{true, not}
 use mathlib.Core.List.{List, [], ◌∷◌, map}
 use lib.ListN.{length, get_or}
-use Rattle.state.specs.Bytes.{AreBytes, span}
+use Rattle.state.specs.Bytes.{AreBytes}
 use Rattle.format.specs.Lists.{before}
 use Rattle.format.specs.Format.{encode}
 use Rattle.format.specs.Admits.{All, shown}

@@ -1,5 +1,5 @@
 -- The keys of a table's entries, and marks of those that were met: a word for each, beside the table's.
-use Rattle.std.specs.Prelude.{Option, Some, None, is_some, ℕ, ◌≡◌, Bool, true, not, ◌&&◌, List, ◌∷◌, map, length}
+use Rattle.std.specs.Prelude.{Option, Some, is_some, ℕ, ◌≡◌, true, not, ◌&&◌, List, ◌∷◌, map, length}
 use Rattle.std.specs.Coded.{×_prop, Coded-set, coded_bool}
 use Rattle.format.specs.Lists.{is_in, all_different}
 use Rattle.format.specs.Manifest.{Section, entry, enums}

@@ -9,7 +9,6 @@ use Rattle.format.specs.Fields.{Entry, enums_of, blocks_of, connectors_of, slots
 use Rattle.format.specs.Places.{manifest_starts, manifest_entries, past}
 use Rattle.format.specs.Reading.{index_words}
 use Rattle.format.specs.Values.{value_at, Well}
-use Rattle.state_index.specs.declared.Table as index
 use Rattle.questions.specs.Sets.{sum}
 
 -- the manifest that bytes spell; where they were accepted by questions 3 to 10, the one that was read

@@ -65,14 +65,14 @@ impl<'a, const SECTION: u8> Keys<'a, SECTION> {
     pub fn find(self, key: &[u8], hint: usize) -> Option<usize>
         ensures { Found (numbered SECTION) self.entry.s.now self.entry.words.now key.now result }
     {
-        words::find(self.s, SECTION, self.words, self.hints, key, hint)
+        words::find::<SECTION>(self.s, self.words, self.hints, key, hint)
     }
 
     // The same without one.
     pub fn search(self, key: &[u8]) -> Option<usize>
         ensures { Found (numbered SECTION) self.entry.s.now self.entry.words.now key.now result }
     {
-        words::search(self.s, SECTION, self.words, self.hints, key)
+        words::search::<SECTION>(self.s, self.words, self.hints, key)
     }
 
     // Finds a key and sets its mark.
