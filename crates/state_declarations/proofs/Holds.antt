@@ -1,120 +1,114 @@
--- Questions 11 to 14: what is left to ask after some entries.
-use Prim.Native.Nat.{ℕ, suc, ◌+◌, ◌-◌, ◌≤◌, ◌<◌, min}
+-- Questions 12 to 14: what is left to ask after some entries, and what is answered of blocks.
+use Prim.Native.Nat.{ℕ, suc, ◌+◌, ◌-◌, ◌≤◌, ◌<◌}
 use native.Mathlib.Omega.{arith}
-use mathlib.Core.Path.{◌≡◌, sym, ap, ◌∙◌}
+use native.Mathlib.Numerals.{add-one}
+use mathlib.Core.Path.{◌≡◌, refl, sym, ap, ◌∙◌}
 use mathlib.Core.Bool.{Bool, true, false, ◌&&◌}
 use mathlib.Core.List.{List, [], ◌∷◌, map}
-use lib.ListN.{length, get_or}
+use lib.ListN.{length, get_or, drop, drop_of_length-le}
+use lib.Seq.{drop-cons}
 use Rattle.std.specs.Prelude.{Result, Ok, Err}
 use Rattle.state.specs.declared.Question.{Question}
+use Rattle.state.specs.Bytes.{AreBytes}
 use Rattle.state.specs.Outcome.{said}
-use Rattle.state.specs.Bytes.{span}
 use Rattle.format.specs.Admits.{All}
-use Rattle.format.specs.Format.{El, text}
-use Rattle.format.specs.Keys.{block_key, connector_key}
-use Rattle.format.specs.Manifest.{value, params, connector_keys, block_head, block_rest, entry, enums, blocks}
-use Rattle.format.specs.Fields.{Entry, params_of}
-use Rattle.format.specs.Places.{number_at, past}
+use Rattle.format.specs.Format.{Fmt}
+use Rattle.format.specs.Manifest.{entry, enums, blocks}
+use Rattle.format.specs.Fields.{Entry}
+use Rattle.format.specs.Places.{past}
 use Rattle.format.specs.Values.{value_at, Well}
-use Rattle.questions.specs.Sets.{all, first}
-use Rattle.questions.specs.Declarations.{enum_holds, params_hold, port_holds, ports_hold, block_answer}
-use Rattle.state_layout.specs.Classes.{classes_at}
-use Rattle.state_layout.proofs.Tables.{limit}
+use Rattle.questions.specs.Sets.{◌unless◌, first}
+use Rattle.questions.specs.Declarations.{kind_holds, params_hold, block_answer}
 use Rattle.questions.proofs.Chains.{answered-yes, answered-no}
-use Rattle.state_declarations.proofs.Walks.{entries_at, ports_at, PortsWell, ports-list, ports-each, words-next, words-end, words-all}
+use Rattle.state_layout.specs.Keys.{classes_of}
+use Rattle.state_layout.proofs.Tables.{limit}
+use Rattle.state_declarations.specs.Each.{inputs_at, outputs_at, are_ports, each_from}
+use Rattle.state_declarations.proofs.Parts.{key-at, key-well, inputs-at, outputs-at, inputs-well, outputs-well, ports-hold}
 
--- ---- a test of each
-module _ {A : Type 0} (t : A → Bool) {x : A} {l xs : List A} {a : Bool} where
-  pub all-next : l ≡ x ∷ xs → t x ≡ true → all t l ≡ a → all t xs ≡ a
-  unfolding all
-  all-next e h i = sym (ap (all t) e ∙ rw h) ∙ i
+-- of a list the entries from place i on, at p
+module _ (entry : Fmt) (s : List ℕ) (test : ℕ → ℕ → Bool) (n i p : ℕ) {r : Bool} (h : each_from entry s test i (n - i) p ≡ r) where
+  module _ (l : i < n) {b : Bool} (j : b ≡ test i p) where
+    pub each-no : b ≡ false → false ≡ r
+    unfolding each_from
+    each-no k = let d : n - i ≡ suc (n - (i + 1)) = omega arith in rw (sym j ∙ k) at (rw d at h)
 
-  pub all-no : l ≡ x ∷ xs → t x ≡ false → all t l ≡ a → false ≡ a
-  unfolding all
-  all-no e h i = sym (ap (all t) e ∙ rw h) ∙ i
-
-pub all_end : {A : Type 0} (t : A → Bool) {l : List A} {a : Bool} → l ≡ [] → all t l ≡ a → true ≡ a
-unfolding all
-all_end t e i = sym (ap (all t) e) ∙ i
-
--- ---- question 13
--- a parameter passes
-abbrev pub passes : List (Entry enums) → El text × El value → Bool
-passes es p = enum_holds es p.1
-
-pub params-start : (es : List (Entry enums)) (s : List ℕ) (at : ℕ) {list n p : ℕ} → list ≡ past block_head s (past block_key s at) → n ≡ number_at 4 s list → p ≡ min (list + 4) (length s)
-    → all (passes es) (entries_at text value s (n - 0) p) ≡ params_hold es (value_at (entry blocks) s at)
-unfolding params_hold params_of block_rest params value_at
-params-start es s at {n = n} e i j = let z : n - 0 ≡ n = omega arith in rw (z, i, j, e)
-
--- ---- question 14
--- the ports from place i on, at p
-pub record PortsLeft (s : List ℕ) (block way at count p i : ℕ) : Type 0 where
-  pub well : PortsWell s (count - i) p
-  pub is : ports_hold (value_at block_key s block) way i (ports_at s (count - i) p) ≡ ports_hold (value_at block_key s block) way 0 (value_at connector_keys s at)
-
-module _ (s : List ℕ) (block way at : ℕ) where
-  pub ports-start : {n p : ℕ} → Well limit connector_keys s at → n ≡ number_at 4 s at → p ≡ min (at + 4) (length s) → PortsLeft s block way at n p 0
-  ports-start w i j = let l = ports-list s at w i j in record { well = l.0; is = ap (ports_hold (value_at block_key s block) way 0) l.1 }
-
-  module _ {n p i : ℕ} (h : PortsLeft s block way at n p i) (l : i < n) where
-    wells : Well limit connector_key s p × PortsWell s (n - (i + 1)) (past connector_key s p)
-    wells = ports-each s n i p l h.well
-
-    pub port-well : Well limit connector_key s p
-    port-well = wells.0
-
-    step : (port_holds (value_at block_key s block) way i (value_at connector_key s p) && ports_hold (value_at block_key s block) way (i + 1) (ports_at s (n - (i + 1)) (past connector_key s p)))
-        ≡ ports_hold (value_at block_key s block) way 0 (value_at connector_keys s at)
-    unfolding ports_hold past ports_at
-    step =
-        let more : n - i ≡ suc (n - (i + 1)) = omega arith in
+    pub each-next : b ≡ true → {e : ℕ} → e ≡ past entry s p → each_from entry s test (i + 1) (n - (i + 1)) e ≡ r
+    unfolding each_from
+    each-next k q =
+        let d : n - i ≡ suc (n - (i + 1)) = omega arith in
         let a : i + 1 ≡ suc i = omega arith in
-        rw a (rw a at (rw more at h.is))
+        rw (a, q) (rw a at (rw (sym j ∙ k) at (rw d at h)))
 
-    pub ports-next : {e : ℕ} → port_holds (value_at block_key s block) way i (value_at connector_key s p) ≡ true → e ≡ past connector_key s p → PortsLeft s block way at n e (i + 1)
-    ports-next b e = record { well = rw e wells.1; is = rw e (rw b at step) }
+  pub each-end : n ≤ i → true ≡ r
+  unfolding each_from
+  each-end l = let d : n - i ≡ 0 = omega arith in rw d at h
 
-    pub ports-no : port_holds (value_at block_key s block) way i (value_at connector_key s p) ≡ false → false ≡ ports_hold (value_at block_key s block) way 0 (value_at connector_keys s at)
-    ports-no b = rw b at step
+-- ---- one block
+module _ (es : List (Entry enums)) (s : List ℕ) (at : ℕ) {x : Bool} (ex : x ≡ kind_holds (value_at (entry blocks) s at)) where
+  abbrev answered : ℕ
+  answered = block_answer es (value_at (entry blocks) s at)
 
-  pub ports-end : {n p i : ℕ} → PortsLeft s block way at n p i → n ≤ i → true ≡ ports_hold (value_at block_key s block) way 0 (value_at connector_keys s at)
-  unfolding ports_hold ports_at
-  ports-end {n} {p} {i} h l = let z : n - i ≡ 0 = omega arith in rw z at h.is
+  pub block_12 : x ≡ false → Err (record { 0 = 12 }) ≡ said answered
+  unfolding block_answer first ◌unless◌
+  block_12 h = rw (← ex, h)
 
--- ---- block by block: those from word i on
-module _ (s index : List ℕ) (from to end : ℕ) where
-  abbrev pub answers_from : ℕ → ℕ
-  answers_from i = first (map (block_answer (classes_at s index from to)) (map (value_at (entry blocks) s) (span index i end)))
+  module _ (hx : x ≡ true) {y : Bool} (ey : y ≡ params_hold es (value_at (entry blocks) s at)) where
+    pub block_13 : y ≡ false → Err (record { 0 = 13 }) ≡ said answered
+    unfolding block_answer first ◌unless◌
+    block_13 h = rw (← ex, hx, ← ey, h)
 
-pub record BlocksLeft (s index : List ℕ) (from to start end i : ℕ) : Type 0 where
-  pub well : All (Well limit (entry blocks) s) (span index i end)
-  pub is : answers_from s index from to end i ≡ answers_from s index from to end start
+    module _ (hy : y ≡ true) (bytes : AreBytes s) (w : Well limit (entry blocks) s at) {z : Bool} (ez : z ≡ (are_ports s at 0 (inputs_at s at) && are_ports s at 1 (outputs_at s at))) where
+      last : answered ≡ first (14 unless z ∷ [])
+      unfolding block_answer first ◌unless◌
+      last = rw (
+        ← ex,
+        hx,
+        ← ey,
+        hy,
+        ez,
+        ports-hold s bytes at 0 (inputs_at s at) (key-well s at w) (inputs-well s at w),
+        ports-hold s bytes at 1 (outputs_at s at) (key-well s at w) (outputs-well s at w),
+        key-at s at,
+        inputs-at s at,
+        outputs-at s at,
+      )
 
-module _ {s index : List ℕ} {from to start end i : ℕ} (h : BlocksLeft s index from to start end i) where
-  module _ (l : i < end) (long : end ≤ length index) {p : ℕ} (e : p ≡ get_or index i 0) where
-    pub block-well : Well limit (entry blocks) s p
-    block-well = (words-all (Well limit (entry blocks) s) index end i l long e h.well).0
+      pub block_14 : z ≡ false → Err (record { 0 = 14 }) ≡ said answered
+      unfolding first ◌unless◌
+      block_14 h = rw (last, h)
 
-    module _ {r : Result Unit Question} (j : r ≡ said (block_answer (classes_at s index from to) (value_at (entry blocks) s p))) where
-      abbrev answer : ℕ
-      answer = block_answer (classes_at s index from to) (value_at (entry blocks) s p)
+      pub block_yes : z ≡ true → Ok tt ≡ said answered
+      unfolding first ◌unless◌
+      block_yes h = rw (last, h)
 
-      abbrev rest : List ℕ
-      rest = map (block_answer (classes_at s index from to)) (map (value_at (entry blocks) s) (span index (i + 1) end))
+pub ruleset block = (block_12, block_13, block_14, block_yes)
 
-      parted : first (answer ∷ rest) ≡ answers_from s index from to end start
-      parted = sym (ap (λ l. first (map (block_answer (classes_at s index from to)) l)) (words-next (value_at (entry blocks) s) index end i l long e)) ∙ h.is
+-- ---- block by block: of those that words list, those from word i on
+abbrev answers : (s classes words : List ℕ) → ℕ
+answers s classes words = first (map (block_answer (classes_of s classes)) (map (value_at (entry blocks) s) words))
 
-      pub blocks-next : r ≡ Ok tt → BlocksLeft s index from to start end (i + 1)
-      blocks-next y = record {
-        well = (words-all (Well limit (entry blocks) s) index end i l long e h.well).1;
-        is = answered-yes answer j y rest ∙ parted;
-      }
+pub record BlocksLeft (s classes words : List ℕ) (i : ℕ) : Type 0 where
+  pub well : All (Well limit (entry blocks) s) (drop i words)
+  pub is : answers s classes (drop i words) ≡ answers s classes words
 
-      pub blocks-no : {d : Question} → r ≡ Err d → Err d ≡ said (answers_from s index from to end start)
-      blocks-no n = answered-no answer j n rest ∙ ap said parted
+pub blocks_start : (s classes words : List ℕ) → All (Well limit (entry blocks) s) words → BlocksLeft s classes words 0
+blocks_start s classes words w = record { well = w; is = refl }
 
-  pub blocks_end : end ≤ i → Ok tt ≡ said (answers_from s index from to end start)
+module _ {s classes words : List ℕ} {i : ℕ} (h : BlocksLeft s classes words i) where
+  module _ (l : i < length words) where
+    parted : drop i words ≡ get_or words i 0 ∷ drop (i + 1) words
+    parted = rw (add-one i, drop-cons words i 0 l)
+
+    pub block-well : Well limit (entry blocks) s (get_or words i 0)
+    block-well = (rw parted at h.well).0
+
+    module _ {r : Result Unit Question} (j : r ≡ said (block_answer (classes_of s classes) (value_at (entry blocks) s (get_or words i 0)))) where
+      pub blocks-next : r ≡ Ok tt → BlocksLeft s classes words (i + 1)
+      blocks-next y = record { well = (rw parted at h.well).1; is = answered-yes _ j y _ ∙ rw parted at h.is }
+
+      pub blocks-no : {d : Question} → r ≡ Err d → Err d ≡ said (answers s classes words)
+      blocks-no n = answered-no _ j n _ ∙ ap said (rw parted at h.is)
+
+  pub blocks-end : length words ≤ i → Ok tt ≡ said (answers s classes words)
   unfolding first
-  blocks_end l = ap said (sym (ap (λ l. first (map (block_answer (classes_at s index from to)) l)) (words-end (value_at (entry blocks) s) index end i l)) ∙ h.is)
+  blocks-end l = ap said (rw (drop_of_length-le words l) at h.is)

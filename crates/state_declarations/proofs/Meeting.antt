@@ -1,23 +1,23 @@
--- Marking several keys, one after the other: what was marked so far, and what is left.
-use Prim.Native.Nat.{ℕ, ◌+◌, ◌-◌, ◌≤◌, ◌<◌}
+-- Marking several keys, one after the other.
+use Prim.Native.Nat.{suc, ◌+◌, ◌-◌, ◌≤◌, ◌<◌}
 use native.Mathlib.Omega.{arith}
+use native.Mathlib.Numerals.{add-one}
 use mathlib.Core.Path.{◌≡◌, refl, sym, ap, ◌∙◌}
-use mathlib.Core.Bool.{Bool, true, false, ◌&&◌, ◌||◌, and_assoc, and_comm, or_assoc, or_comm, or-false}
-use mathlib.Core.List.{List, [], ◌∷◌, ◌++◌, map}
-use lib.ListN.{length, get_or}
-use Rattle.std.specs.Prelude.{Option, Some, None}
+use mathlib.Core.Bool.{Bool, true, false, ◌&&◌, ◌||◌, and_assoc, or_assoc, or_comm, or-false}
+use mathlib.Core.List.{List, [], ◌∷◌, ◌++◌}
+use lib.ListN.{length, get_or, drop, replicate, length-map, drop_of_length-le}
+use lib.Seq.{drop-cons}
+use Rattle.std.specs.Prelude.{Option, Some, None, ℕ}
 use Rattle.std.specs.Option.{is_some}
-use Rattle.state.specs.Bytes.{span}
 use Rattle.format.specs.Lists.{same, is_in}
 use Rattle.format.specs.Manifest.{Section}
-use Rattle.questions.specs.Sets.{all, gather, all_in, same_set}
-use Rattle.state_index.specs.Sort.{Kept}
-use Rattle.state_index.proofs.Lists.{filled}
-use Rattle.state_layout.specs.Marks.{is_set, keys_at, Keyed, Marks}
-use Rattle.state_layout.proofs.Kept.{kept_refl, kept_trans, span-kept}
-use Rattle.state_layout.proofs.Marked.{keyed-kept, cleared-kept, marked_start, marked_all}
-use Rattle.state_declarations.specs.Each.{met, MarksEach}
-use Rattle.state_declarations.proofs.Walks.{words-next, words-end}
+use Rattle.format.specs.Format.{Fmt}
+use Rattle.format.specs.Places.{key_at, past}
+use Rattle.questions.specs.Sets.{all, all_in, gather, same_set}
+use Rattle.state_layout.specs.Marks.{is_set, marks_of}
+use Rattle.state_layout.specs.Keys.{keys_of, Met}
+use Rattle.state_layout.proofs.Marked.{get-map, key_in, marks-none, all_set}
+use Rattle.state_declarations.specs.Each.{names_from, met, MarksEach}
 
 -- ---- keys that were met
 met-append : (ks ls seen : List (List ℕ)) → met (ks ++ ls) seen ≡ met ls (met ks seen)
@@ -46,118 +46,93 @@ all_append (k ∷ ks) ls keys = rw (all_append ks ls keys) (sym (and_assoc (is_i
 some-none : {f : Option ℕ} → f ≡ None → is_some f ≡ true → ⊥
 some-none i j = let h = rw i at j in cc
 
-module _ {e : Section} {s : List ℕ} {from to marks : ℕ} where
-  pub each_none : (w : ℕ) (l : List ℕ) → MarksEach e s from to marks [] (Some w) l l
+module _ {listed : List (List ℕ)} where
+  pub each_none : (w : ℕ) (l : List ℕ) → MarksEach listed [] (Some w) l l
   unfolding met all_in all
-  each_none w l = record { kept = kept_refl marks (marks + (to - from)) l; found = refl; next = λ i seen h. h }
+  each_none w l = record { found = refl; marks = λ i seen h. h }
 
-  found-one : {key : List ℕ} (r : Option ℕ) {old new : List ℕ} → Marks e s from to marks key r old new → MarksEach e s from to marks (key ∷ []) r old new
+  module _ {xs : List (List ℕ)} {f : Option ℕ} {a b : List ℕ} (m : MarksEach listed xs f a b) where
+    pub each_join : {ys : List (List ℕ)} {v : ℕ} {r : Option ℕ} {c : List ℕ} → f ≡ Some v → MarksEach listed ys r b c → MarksEach listed (xs ++ ys) r a c
+    each_join {ys} i n = record {
+      found = rw (all_append xs ys listed, ← m.found, i) n.found;
+      marks = λ j seen h. rw (met-append xs ys seen) (n.marks j (met xs seen) (m.marks (ap is_some i) seen h));
+    }
+
+    pub each_fail : (ys : List (List ℕ)) {r : Option ℕ} → f ≡ None → r ≡ None → MarksEach listed (xs ++ ys) r a b
+    each_fail ys i k = record {
+      found = rw (all_append xs ys listed, ← m.found, i, k);
+      marks = λ j. absurd (some-none k j);
+    }
+
+-- one key
+module _ (e : Section) (s words key : List ℕ) {f : Option ℕ} {old new : List ℕ} (m : Met e s words key f old new) where
+  pub place-there : {i : ℕ} → f ≡ Some i → i < length words
+  place-there {i} g = (m.found.at i g).0
+
+  pub each_one : {i : ℕ} → f ≡ Some i → (w : ℕ) → MarksEach (keys_of e s words) (key ∷ []) (Some w) old new
   unfolding met all_in all
-  found-one (Some w) m = record { kept = m.kept; found = rw (m.at w refl).2; next = λ i. m.next w refl }
-  found-one None m = record { kept = m.kept; found = rw (m.nothing refl); next = λ i seen h. absurd (some-none refl i) }
+  each_one {i} g w =
+      let h = m.found.at i g in
+      let k : get_or (keys_of e s words) i [] ≡ key = get-map (key_at e s) words i 0 [] h.0 ∙ h.1 in
+      let there : is_in key (keys_of e s words) ≡ true = rw k at (key_in (keys_of e s words) i (omega (arith, h.0, length-map words (key_at e s)))) in
+      record { found = rw there; marks = λ j seen. m.marks seen }
 
-  pub each-one : {key : List ℕ} {r : Option ℕ} {old new : List ℕ} → Marks e s from to marks key r old new → MarksEach e s from to marks (key ∷ []) r old new
-  each-one {r = r} m = found-one r m
+  pub each_lost : f ≡ None → {r : Option ℕ} → r ≡ None → MarksEach (keys_of e s words) (key ∷ []) r old new
+  unfolding met all_in all
+  each_lost g j = record { found = rw (j, m.found.nothing g); marks = λ k seen. m.marks seen }
 
-  pub each-join : {xs ys : List (List ℕ)} {f r : Option ℕ} {a b c : List ℕ} {v : ℕ} → to ≤ marks → MarksEach e s from to marks xs f a b → f ≡ Some v → MarksEach e s from to marks ys r b c → MarksEach e s from to marks (xs ++ ys) r a c
-  each-join {xs} {ys} {a = a} {b} below m i n =
-      let k : span b from to ≡ span a from to = span-kept m.kept from to below in
-      record {
-        kept = kept_trans m.kept n.kept;
-        found = let h = rw k at n.found in rw (all_append xs ys (keys_at e s a from to), ← m.found, i) h;
-        next = λ j seen h. rw (met-append xs ys seen) (n.next j (met xs seen) (m.next (ap is_some i) seen h));
-      }
+  pub each_met : MarksEach (keys_of e s words) (key ∷ []) f old new
+  each_met = go f refl
+    where
+      go : (o : Option ℕ) → f ≡ o → MarksEach (keys_of e s words) (key ∷ []) f old new
+      go None g = each_lost g g
+      go (Some i) g = rw g (each_one g i)
 
-  pub each-fail : {xs : List (List ℕ)} (ys : List (List ℕ)) {f r : Option ℕ} {a b : List ℕ} → MarksEach e s from to marks xs f a b → f ≡ None → r ≡ None → MarksEach e s from to marks (xs ++ ys) r a b
-  each-fail {xs} ys {a = a} m i k = record {
-    kept = m.kept;
-    found = rw (all_append xs ys (keys_at e s a from to), ← m.found, i, k);
-    next = λ j. absurd (some-none k j);
-  }
+pub ruleset marked = (each_one, each_lost, place-there)
 
 -- ---- loops that mark: whatever marks those that are left marks all
-pub record Marking (e : Section) (s : List ℕ) (from to marks : ℕ) (keys rest : List (List ℕ)) (old now : List ℕ) : Type 0 where
-  pub keyed : Keyed e s now from to marks
-  pub kept : Kept marks (marks + (to - from)) old now
-  pub goes : (r : Option ℕ) (new : List ℕ) → MarksEach e s from to marks rest r now new → MarksEach e s from to marks keys r old new
+pub record Marking (listed keys rest : List (List ℕ)) (old now : List ℕ) : Type 0 where
+  pub goes : (r : Option ℕ) (new : List ℕ) → MarksEach listed rest r now new → MarksEach listed keys r old new
 
-module _ {e : Section} {s : List ℕ} {from to marks : ℕ} {keys rest : List (List ℕ)} where
-  pub marking-start : {index : List ℕ} → Keyed e s index from to marks → rest ≡ keys → Marking e s from to marks keys rest index index
-  marking-start {index} k i = record { keyed = k; kept = kept_refl marks (marks + (to - from)) index; goes = λ r new m. rw (← i) m }
+module _ {listed keys rest : List (List ℕ)} {old now : List ℕ} (h : Marking listed keys rest old now) where
+  pub marking-end : rest ≡ [] → (w : ℕ) → MarksEach listed keys (Some w) old now
+  marking-end i w = h.goes (Some w) now (rw i (each_none w now))
 
-  module _ {old now : List ℕ} (h : Marking e s from to marks keys rest old now) where
-    pub marking-end : rest ≡ [] → (w : ℕ) → MarksEach e s from to marks keys (Some w) old now
-    marking-end i w = h.goes (Some w) now (rw i (each_none w now))
+  module _ {xs : List (List ℕ)} (ys : List (List ℕ)) (i : rest ≡ xs ++ ys) {f : Option ℕ} {new : List ℕ} (m : MarksEach listed xs f now new) where
+    pub marking-next : {w : ℕ} → f ≡ Some w → Marking listed keys ys old new
+    marking-next j = record { goes = λ r last n. h.goes r last (rw i (each_join m j n)) }
 
-    module _ {xs : List (List ℕ)} (ys : List (List ℕ)) {f : Option ℕ} {new : List ℕ} (i : rest ≡ xs ++ ys) (m : MarksEach e s from to marks xs f now new) where
-      pub marking-next : {w : ℕ} → f ≡ Some w → Marking e s from to marks keys ys old new
-      marking-next j = record {
-        keyed = keyed-kept m.kept h.keyed h.keyed.below;
-        kept = kept_trans h.kept m.kept;
-        goes = λ r last n. h.goes r last (rw i (each-join h.keyed.below m j n));
-      }
+    pub marking-fail : {r : Option ℕ} → f ≡ None → r ≡ None → MarksEach listed keys r old new
+    marking-fail {r} j k = h.goes r new (rw i (each_fail m ys j k))
 
-      pub marking-fail : {r : Option ℕ} → f ≡ None → r ≡ None → MarksEach e s from to marks keys r old new
-      marking-fail {r} j k = h.goes r new (rw i (each-fail ys m j k))
+-- what is left of words, and of a list
+pub words-next : {A : Type 0} (names : ℕ → List A) (words : List ℕ) (i : ℕ) → i < length words → gather names (drop i words) ≡ names (get_or words i 0) ++ gather names (drop (i + 1) words)
+unfolding gather
+words-next names words i h = rw (add-one i, drop-cons words i 0)
 
--- ---- over the words of an index: those from i on are left
-module _ {A : Type 0} (view : ℕ → A) (g : A → List (List ℕ)) where
-  -- the keys that the entries at the words i..end name
-  abbrev pub named : (index : List ℕ) (i end : ℕ) → List (List ℕ)
-  named index i end = gather g (map view (span index i end))
+pub words-end : {A : Type 0} (names : ℕ → List A) (words : List ℕ) (i : ℕ) → length words ≤ i → gather names (drop i words) ≡ []
+unfolding gather
+words-end names words i h = rw (drop_of_length-le words h)
 
-  named-next : (index : List ℕ) (i end : ℕ) → i < end → end ≤ length index → {p : ℕ} → p ≡ get_or index i 0 → named index i end ≡ g (view p) ++ named index (i + 1) end
-  unfolding gather
-  named-next index i end l h j = ap (gather g) (words-next view index end i l h j)
+module _ (entry : Fmt) (s : List ℕ) (names : ℕ → ℕ → List (List ℕ)) (n i p : ℕ) where
+  pub list-next : i < n → {e : ℕ} → e ≡ past entry s p → names_from entry s names (n - i) p ≡ names p e ++ names_from entry s names (n - (i + 1)) e
+  unfolding names_from
+  list-next h j = let d : n - i ≡ suc (n - (i + 1)) = omega arith in rw (d, j)
 
-  named_end : (index : List ℕ) (i end : ℕ) → end ≤ i → named index i end ≡ []
-  unfolding gather
-  named_end index i end h = ap (gather g) (words-end view index end i h)
+  pub list-end : n ≤ i → names_from entry s names (n - i) p ≡ []
+  unfolding names_from
+  list-end h = let d : n - i ≡ 0 = omega arith in rw d
 
-  module _ {e : Section} {s : List ℕ} {from to marks : ℕ} {keys : List (List ℕ)} {old now : List ℕ} {i end : ℕ}
-      (h : Marking e s from to marks keys (named now i end) old now) where
-    pub words-ended : end ≤ i → (w : ℕ) → MarksEach e s from to marks keys (Some w) old now
-    words-ended l w = marking-end h (named_end now i end l) w
+-- ---- the question: are the keys met those listed?
+-- the marks cleared
+pub cleared : (e : Section) (s words old : List ℕ) → length old ≡ length words → {new : List ℕ} → new ≡ replicate (length old) 0 → new ≡ marks_of [] (keys_of e s words)
+cleared e s words old l h = rw (marks-none (keys_of e s words), length-map words (key_at e s), ← l) h
 
-    module _ (l : i < end) (below : end ≤ marks) {p : ℕ} (j : p ≡ get_or now i 0) {f : Option ℕ} {new : List ℕ} (m : MarksEach e s from to marks (g (view p)) f now new) where
-      long : end ≤ length now
-      long = omega (arith, h.keyed.fits)
+module _ {listed names : List (List ℕ)} {f : Option ℕ} {old new : List ℕ} (m : MarksEach listed names f old new) {b : Bool} (q : b ≡ is_some f) where
+  pub unlisted : b ≡ false → b ≡ same_set names listed
+  unfolding same_set
+  unlisted j = rw (← m.found, ← q, j)
 
-      pub words-marked : {w : ℕ} → f ≡ Some w → Marking e s from to marks keys (named new (i + 1) end) old new
-      words-marked q =
-          let k : span new (i + 1) end ≡ span now (i + 1) end = span-kept m.kept (i + 1) end below in
-          rw k (marking-next h _ (named-next now i end l long j) m q)
-
-      pub words-failed : {r : Option ℕ} → f ≡ None → r ≡ None → MarksEach e s from to marks keys r old new
-      words-failed q z = marking-fail h _ (named-next now i end l long j) m q z
-
--- ---- the question: are the keys met those listed? The marks are cleared first
-module _ {e : Section} {s : List ℕ} {from to marks : ℕ} {old clean : List ℕ} (k : Keyed e s old from to marks) (i : clean ≡ filled 0 marks (marks + (to - from)) old) where
-  pub clean-keyed : Keyed e s clean from to marks
-  clean-keyed = keyed-kept (cleared-kept k i) k k.below
-
-  pub clean-words : (a b : ℕ) → b ≤ marks → span clean a b ≡ span old a b
-  clean-words a b l = span-kept (cleared-kept k i) a b l
-
-  abbrev listed : List (List ℕ)
-  listed = keys_at e s old from to
-
-  module _ {keys : List (List ℕ)} {f : Option ℕ} {new : List ℕ} (m : MarksEach e s from to marks keys f clean new) where
-    pub asked-kept : Kept marks (marks + (to - from)) old new
-    asked-kept = kept_trans (cleared-kept k i) m.kept
-
-    pub unlisted : {b : Bool} → b ≡ is_some f → b ≡ false → b ≡ same_set keys listed
-    unfolding same_set
-    unlisted q j = let h = rw (clean-words from to k.below) at m.found in rw (← h, ← q, j)
-
-    pub all_listed : {b : Bool} → b ≡ is_some f → b ≡ true → {x : Bool} → x ≡ all is_set (span new marks (marks + (to - from))) → x ≡ same_set keys listed
-    unfolding same_set
-    all_listed q j x =
-        let h = rw (clean-words from to k.below) at m.found in
-        let n : span new from to ≡ span old from to = span-kept asked-kept from to k.below in
-        let u : all is_set (span new marks (marks + (to - from))) ≡ all_in listed keys = rw n at (marked_all (m.next (sym q ∙ j) [] (marked_start k i))) ∙ all-met listed keys in
-        rw (← h, ← q, j) (x ∙ u)
-
-pub same-turned : (ks ls : List (List ℕ)) → same_set ks ls ≡ same_set ls ks
-unfolding same_set
-same-turned ks ls = and_comm (all_in ks ls) (all_in ls ks)
+  pub all_listed : b ≡ true → old ≡ marks_of [] listed → {x : Bool} → x ≡ all is_set new → x ≡ same_set names listed
+  unfolding same_set
+  all_listed j o x = rw (← m.found, ← q, j) (x ∙ ap (all is_set) (m.marks (sym q ∙ j) [] o) ∙ all_set (met names []) listed ∙ all-met listed names)

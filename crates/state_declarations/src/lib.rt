@@ -4,52 +4,73 @@
 mod blocks;
 mod sets;
 
-ghost use Rattle.std.specs.Prelude.{◌≡◌, ◌≤◌, length};
+ghost use Rattle.std.specs.Prelude.{◌≡◌, ◌+◌, ◌≤◌, length};
 ghost use Rattle.state.specs.Outcome.{said};
+ghost use Rattle.format.specs.Format.{text, ◌then◌};
+ghost use Rattle.format.specs.Manifest.{value};
+ghost use Rattle.format.specs.Places.{past};
 ghost use Rattle.questions.specs.Sets.{all, first};
 ghost use Rattle.questions.specs.Declarations.{has_member, declarations};
-ghost use Rattle.state_layout.specs.Tables.{Tabled, Leaves, manifest_of};
-ghost use Rattle.state_layout.specs.Classes.{classes_at};
+ghost use Rattle.state_layout.specs.Tables.{Laid, Tabled, Leaves, manifest_of, room_start, room_end};
+ghost use Rattle.state_layout.specs.Keys.{classes_of};
 
 use blocks::blocks_answer;
 use sets::{classes_are, ports_are};
 use state::{Question, Section};
 use state_index::keys::count_at;
-use state_index::{Table, text_end, word_at};
-use state_layout::{table_at, table_start};
+use state_index::text_end;
+use state_layout::ends::value_end;
+use state_layout::keys::{Classes, Connectors, keys_of};
+use state_layout::{room_start, table_of};
 
-// Question 11 of the classes.
-fn members_there(s: &[u8], index: &[u32], classes: Table) -> bool
-    requires { classes.to ≤ length index.now }
-    ensures { result ≡ all has_member (classes_at s.now index.now classes.from classes.to) }
+// Where the parameter at a position ends.
+#[tactic(auto, unfolding(format::specs::Places::past))]
+pub(crate) fn parameter_end(s: &[u8], at: usize) -> usize
+    ensures { result ≡ past (text then value) s.now at }
 {
-    for i in classes.from..classes.to {
-        if count_at(s, text_end(s, word_at(index, i))) == 0 {
-            return false;
-        }
+    value_end(s, text_end(s, at))
+}
+
+// Question 11 of the classes that words list.
+fn members_there(s: &[u8], classes: &[u32]) -> bool
+    ensures { result ≡ all has_member (classes_of s.now classes.now) }
+{
+    classes
+        .iter()
+        .all(|word| count_at(s, text_end(s, *word as usize)) != 0)
+}
+
+// The first that is answered no.
+fn answer(s: &[u8], tables: &[u32], room: &mut [u32]) -> Result<(), Question>
+    requires laid { Laid s.now tables.now }
+    requires long { room_end s.now ≤ room_start s.now + length room.old }
+    ensures { result ≡ said (first (declarations (manifest_of s.now))) }
+{
+    let classes: Classes = keys_of(s, tables, &[]);
+    let connectors: Connectors = keys_of(s, tables, &[]);
+    let blocks = table_of(s, tables, Section::BLOCKS);
+    if !members_there(s, classes.words) {
+        return Err(Question(11));
     }
-    true
+    blocks_answer(classes, blocks)?;
+    if !ports_are(connectors, blocks, &mut room[..connectors.words.len()]) {
+        return Err(Question(15));
+    }
+    let marks = &mut room[..classes.words.len()];
+    if !classes_are(classes, blocks, connectors.words, marks) {
+        return Err(Question(16));
+    }
+    Ok(())
 }
 
 // The first that is answered no. The words behind the tables are room for marks.
+#[tactic(auto, using(state_layout::proofs::Indexed::laid_front, state_layout::proofs::Indexed::leaves_split, state_layout::proofs::Indexed::laid_of, state_layout::proofs::Indexed::room_behind))]
 pub fn validate_declarations(s: &[u8], index: &mut [u32]) -> Result<(), Question>
     requires { Tabled s.now index.old }
     ensures value { result ≡ said (first (declarations (manifest_of s.now))) }
     ensures leaves { Leaves s.now index.old index.new }
 {
-    let classes = table_at(s, index, Section::ENUMS);
-    let blocks = table_at(s, index, Section::BLOCKS);
-    let connectors = table_at(s, index, Section::CONNECTORS);
-    let marks = table_start(s, index, 13);
-    if !members_there(s, index, classes) {
-        return Err(Question(11));
-    }
-    blocks_answer(s, index, classes, blocks)?;
-    if !ports_are(s, index, blocks, connectors, marks) {
-        return Err(Question(15));
-    }
-    if !classes_are(s, index, classes, blocks, connectors, marks) {
-        return Err(Question(16));
-    }
-    Ok(())
+    let end = room_start(s, index);
+    let (tables, room) = index.split_at_mut(end);
+    answer(s, tables, room)
 }

@@ -1,228 +1,212 @@
-// Questions 15 and 16: what is listed is what is named. Each name's mark is set behind the tables, and then none may be left unset.
-ghost use Rattle.std.specs.Prelude.{◌≡◌, ◌++◌, map, ◌+◌, ◌-◌, ◌≤◌};
-ghost use Rattle.state.specs.Bytes.{AreBytes, span};
-ghost use Rattle.state_wire.specs.Fields.{max_snapshot_bytes};
-ghost use Rattle.format.specs.Admits.{All};
-ghost use Rattle.format.specs.Manifest.{connector_keys, entry, enums, blocks as block_entries, connectors as connector_entries};
-ghost use Rattle.format.specs.Fields.{value_type_of, type_class};
-ghost use Rattle.format.specs.Values.{value_at, Well};
+// Questions 15 and 16: what is listed is what is named. The marks of the keys that are named are set, and then none may be left unset.
+ghost use Rattle.std.specs.Prelude.{Option, ◌≡◌, List, ◌∷◌, [], ◌++◌, ℕ, length};
+ghost use Rattle.std.specs.Borrow.{MutBor};
+ghost use Rattle.state.specs.Bytes.{span};
+ghost use Rattle.format.specs.Format.{text};
+ghost use Rattle.format.specs.Manifest.{enums, connectors as connector_entries};
+ghost use Rattle.format.specs.Places.{past};
 ghost use Rattle.questions.specs.Sets.{gather, same_set};
-ghost use Rattle.questions.specs.Declarations.{port_names, block_ports, param_classes};
-ghost use Rattle.state_index.specs.Sort.{Kept};
-ghost use Rattle.state_layout.specs.Marks.{keys_at, Keyed};
-ghost use Rattle.state_declarations.specs.Each.{MarksEach, class_at};
+ghost use Rattle.state_layout.specs.Marks.{marks_of};
+ghost use Rattle.state_layout.specs.Keys.{keys_of};
+ghost use Rattle.state_declarations.specs.Each.{names_in, MarksEach, Naming, ListNaming, keys_named, ports_named, class_at, classes_named, type_named};
 
-use state::{Section, WireValueType};
+use super::parameter_end;
+use state::WireValueType;
 use state_index::keys::{byte_at, connector_key_end, count_at};
-use state_index::{Table, ahead, clear, text_end, text_part, word_at};
-use state_layout::ends::{
-    connector_keys_end, connector_type_at, parameters_at, parameters_end, value_end,
-};
-use state_layout::marks::{all_marked, mark};
+use state_index::{ahead, text_end, text_part};
+use state_layout::ends::{connector_keys_end, connector_type_at, parameters_at, parameters_end};
+use state_layout::keys::{Classes, Connectors, all_marked};
 use state_wire::part;
 
-// Marks the connectors that the list of keys at a position names.
-fn mark_keys(
-    s: &[u8],
-    index: &mut [u32],
-    connectors: Table,
-    marks: usize,
-    at: usize,
-    hint: usize,
+// Marks what the entry at each word names: a step is given the place to try first, and gives the one to try next.
+fn mark_each<K: Copy, F: Fn(K, &mut [u32], usize, usize) -> Option<usize>>(
+    keys: K,
+    marks: &mut [u32],
+    words: &[u32],
+    mark_entry: F,
 ) -> Option<usize>
-    requires are_bytes { AreBytes s.now }
-    requires well { Well max_snapshot_bytes connector_keys s.now at }
-    requires keyed { Keyed connector_entries s.now index.old connectors.from connectors.to marks }
-    ensures { MarksEach connector_entries s.now connectors.from connectors.to marks (port_names (value_at connector_keys s.now at)) result index.old index.new }
+    ghost named: { Naming }
+    requires long { length marks.old ≡ named.count }
+    requires callable { (m : MutBor (List ℕ)) (p h : ℕ) → length m.now ≡ named.count → F.pre mark_entry keys m p h }
+    requires steps { (m n : MutBor (List ℕ)) (p h : ℕ) (r : Option ℕ) → F.post mark_entry keys m p h r n → MarksEach named.listed (named.names p) r m.now n.now }
+    ensures { MarksEach named.listed (gather named.names words.now) result marks.old marks.new }
+{
+    let mut next = 0;
+    for word in words {
+        next = mark_entry(keys, marks, *word as usize, next)?;
+    }
+    Some(next)
+}
+
+// The same of the counted list at a position: a step is given where its entry starts and ends.
+fn mark_list<
+    K: Copy,
+    E: Fn(&[u8], usize) -> usize,
+    F: Fn(K, &mut [u32], usize, usize, usize) -> Option<usize>,
+>(
+    s: &[u8],
+    at: usize,
+    keys: K,
+    marks: &mut [u32],
+    hint: usize,
+    entry_end: E,
+    mark_entry: F,
+) -> Option<usize>
+    ghost named: { ListNaming }
+    requires long { length marks.old ≡ named.count }
+    requires end_callable { E.IsAlwaysCallable entry_end }
+    requires ends { (p r : _) → E.post entry_end s p r → r ≡ past named.entry s.now p }
+    requires callable { (m : MutBor (List ℕ)) (p e h : ℕ) → length m.now ≡ named.count → F.pre mark_entry keys m p e h }
+    requires steps { (m n : MutBor (List ℕ)) (p e h : ℕ) (r : Option ℕ) → F.post mark_entry keys m p e h r n → MarksEach named.listed (named.names p e) r m.now n.now }
+    ensures { MarksEach named.listed (names_in named.entry s.now named.names at) result marks.old marks.new }
 {
     let mut p = ahead(s, at, 4);
     let mut next = hint;
     for _ in 0..count_at(s, at) {
-        let end = connector_key_end(s, p);
-        let key = part(s, p, end);
-        next = mark(s, Section::CONNECTORS, index, connectors, marks, key, next)? + 1;
+        let end = entry_end(s, p);
+        next = mark_entry(keys, marks, p, end, next)?;
         p = end;
     }
     Some(next)
 }
 
-// Marks the connectors that are ports of the block at a position.
-fn mark_ports(
-    s: &[u8],
-    index: &mut [u32],
-    connectors: Table,
-    marks: usize,
-    at: usize,
+// Are the keys that are listed those that are named, where marking them came to `met` and began with no mark?
+fn all_met(met: Option<usize>, marks: &[u32]) -> bool
+    ensures { (listed names : List (List ℕ)) (old : List ℕ) → MarksEach listed names met old marks.now → old ≡ marks_of [] listed → result ≡ same_set names listed }
+{
+    met.is_some() && all_marked(marks)
+}
+
+// Marks the connector whose key starts and ends at positions.
+#[tactic(auto, using(crate::proofs::Meeting::marked), unfolding(format::specs::Manifest::numbered))]
+fn mark_key(
+    connectors: Connectors,
+    marks: &mut [u32],
+    start: usize,
+    end: usize,
     hint: usize,
 ) -> Option<usize>
-    requires are_bytes { AreBytes s.now }
-    requires well { Well max_snapshot_bytes (entry block_entries) s.now at }
-    requires keyed { Keyed connector_entries s.now index.old connectors.from connectors.to marks }
-    ensures { MarksEach connector_entries s.now connectors.from connectors.to marks (block_ports (value_at (entry block_entries) s.now at)) result index.old index.new }
+    requires { length marks.old ≡ length connectors.words.now }
+    ensures { MarksEach (keys_of connector_entries connectors.entry.s.now connectors.entry.words.now) (span connectors.entry.s.now start end ∷ []) result marks.old marks.new }
 {
+    let i = connectors.mark(marks, part(connectors.s, start, end), hint)?;
+    Some(i + 1)
+}
+
+// Marks the connectors that the list of keys at a position names.
+fn mark_keys(connectors: Connectors, marks: &mut [u32], at: usize, hint: usize) -> Option<usize>
+    requires { length marks.old ≡ length connectors.words.now }
+    ensures { MarksEach (keys_of connector_entries connectors.entry.s.now connectors.entry.words.now) (keys_named connectors.entry.s.now at) result marks.old marks.new }
+{
+    mark_list(
+        connectors.s,
+        at,
+        connectors,
+        marks,
+        hint,
+        connector_key_end,
+        mark_key,
+    )
+}
+
+// Marks the connectors that are ports of the block at a position.
+fn mark_ports(connectors: Connectors, marks: &mut [u32], at: usize, hint: usize) -> Option<usize>
+    requires { length marks.old ≡ length connectors.words.now }
+    ensures { MarksEach (keys_of connector_entries connectors.entry.s.now connectors.entry.words.now) (ports_named connectors.entry.s.now at) result marks.old marks.new }
+{
+    let s = connectors.s;
     let inputs = parameters_end(s, parameters_at(s, at));
-    let next = mark_keys(s, index, connectors, marks, inputs, hint)?;
-    let outputs = connector_keys_end(s, inputs);
-    mark_keys(s, index, connectors, marks, outputs, next)
+    let next = mark_keys(connectors, marks, inputs, hint)?;
+    mark_keys(connectors, marks, connector_keys_end(s, inputs), next)
 }
 
-// Marks the connectors that are ports of a block.
-// Not one function over a closure with `mark_all_parameters` and `mark_types`: tried, and what its callers owe of such a closure did not prove.
-fn mark_all_ports(
-    s: &[u8],
-    index: &mut [u32],
-    blocks: Table,
-    connectors: Table,
-    marks: usize,
-) -> Option<usize>
-    requires are_bytes { AreBytes s.now }
-    requires all { All (Well max_snapshot_bytes (entry block_entries) s.now) (span index.old blocks.from blocks.to) }
-    requires below { blocks.to ≤ marks }
-    requires keyed { Keyed connector_entries s.now index.old connectors.from connectors.to marks }
-    ensures { MarksEach connector_entries s.now connectors.from connectors.to marks (gather block_ports (map (value_at (entry block_entries) s.now) (span index.old blocks.from blocks.to))) result index.old index.new }
+// Question 15, with a mark for each connector.
+pub(crate) fn ports_are(connectors: Connectors, blocks: &[u32], marks: &mut [u32]) -> bool
+    requires { length marks.old ≡ length connectors.words.now }
+    ensures { result ≡ same_set (gather (ports_named connectors.entry.s.now) blocks.now) (keys_of connector_entries connectors.entry.s.now connectors.entry.words.now) }
 {
-    let mut next = connectors.from;
-    for i in blocks.from..blocks.to {
-        next = mark_ports(s, index, connectors, marks, word_at(index, i), next)?;
-    }
-    Some(next)
-}
-
-// Question 15.
-pub(crate) fn ports_are(
-    s: &[u8],
-    index: &mut [u32],
-    blocks: Table,
-    connectors: Table,
-    marks: usize,
-) -> bool
-    requires are_bytes { AreBytes s.now }
-    requires all { All (Well max_snapshot_bytes (entry block_entries) s.now) (span index.old blocks.from blocks.to) }
-    requires below { blocks.to ≤ marks }
-    requires keyed { Keyed connector_entries s.now index.old connectors.from connectors.to marks }
-    ensures value { result ≡ same_set (gather block_ports (map (value_at (entry block_entries) s.now) (span index.old blocks.from blocks.to))) (keys_at connector_entries s.now index.old connectors.from connectors.to) }
-    ensures kept { Kept marks (marks + (connectors.to - connectors.from)) index.old index.new }
-{
-    let end = marks + (connectors.to - connectors.from);
-    clear(index, marks, end);
-    mark_all_ports(s, index, blocks, connectors, marks).is_some() && all_marked(index, marks, end)
+    marks.fill(0);
+    let met = mark_each(connectors, marks, blocks, mark_ports);
+    all_met(met, marks)
 }
 
 // Marks the class of the value or the value type at a position.
-fn mark_class(
-    s: &[u8],
-    index: &mut [u32],
-    classes: Table,
-    marks: usize,
-    at: usize,
-    hint: usize,
-) -> Option<usize>
-    requires { Keyed enums s.now index.old classes.from classes.to marks }
-    ensures { MarksEach enums s.now classes.from classes.to marks (class_at s.now at) result index.old index.new }
+fn mark_class(classes: Classes, marks: &mut [u32], at: usize, hint: usize) -> Option<usize>
+    requires { length marks.old ≡ length classes.words.now }
+    ensures { MarksEach (keys_of enums classes.entry.s.now classes.entry.words.now) (class_at classes.entry.s.now at) result marks.old marks.new }
 {
-    if byte_at(s, at) != WireValueType::ENUM {
+    if byte_at(classes.s, at) != WireValueType::ENUM {
         return Some(hint);
     }
-    let path = text_part(s, ahead(s, at, 1));
-    mark(s, Section::ENUMS, index, classes, marks, path, hint)
+    let path = text_part(classes.s, ahead(classes.s, at, 1));
+    classes.mark(marks, path, hint)
+}
+
+// Marks the class of the parameter that starts at a position.
+fn mark_parameter(
+    classes: Classes,
+    marks: &mut [u32],
+    start: usize,
+    _end: usize,
+    hint: usize,
+) -> Option<usize>
+    requires { length marks.old ≡ length classes.words.now }
+    ensures { MarksEach (keys_of enums classes.entry.s.now classes.entry.words.now) (class_at classes.entry.s.now (past text classes.entry.s.now start)) result marks.old marks.new }
+{
+    mark_class(classes, marks, text_end(classes.s, start), hint)
 }
 
 // Marks the classes that parameters of the block at a position name.
-// Not one function over a closure with `mark_keys`: two cursors move, and the closure would hand both back.
-fn mark_parameters(
-    s: &[u8],
-    index: &mut [u32],
-    classes: Table,
-    marks: usize,
-    at: usize,
-    hint: usize,
-) -> Option<usize>
-    requires { Keyed enums s.now index.old classes.from classes.to marks }
-    ensures { MarksEach enums s.now classes.from classes.to marks (param_classes (value_at (entry block_entries) s.now at)) result index.old index.new }
+fn mark_parameters(classes: Classes, marks: &mut [u32], at: usize, hint: usize) -> Option<usize>
+    requires { length marks.old ≡ length classes.words.now }
+    ensures { MarksEach (keys_of enums classes.entry.s.now classes.entry.words.now) (classes_named classes.entry.s.now at) result marks.old marks.new }
 {
-    let list = parameters_at(s, at);
-    let mut p = ahead(s, list, 4);
-    let mut next = hint;
-    for _ in 0..count_at(s, list) {
-        let v = text_end(s, p);
-        next = mark_class(s, index, classes, marks, v, next)?;
-        p = value_end(s, v);
-    }
-    Some(next)
+    let list = parameters_at(classes.s, at);
+    mark_list(
+        classes.s,
+        list,
+        classes,
+        marks,
+        hint,
+        parameter_end,
+        mark_parameter,
+    )
 }
 
-// Marks the classes that parameters name.
-fn mark_all_parameters(
-    s: &[u8],
-    index: &mut [u32],
-    classes: Table,
-    blocks: Table,
-    marks: usize,
-) -> Option<usize>
-    requires keyed { Keyed enums s.now index.old classes.from classes.to marks }
-    requires below { blocks.to ≤ marks }
-    ensures { MarksEach enums s.now classes.from classes.to marks (gather param_classes (map (value_at (entry block_entries) s.now) (span index.old blocks.from blocks.to))) result index.old index.new }
+// Marks the class of the value type of the connector at a position.
+fn mark_type(classes: Classes, marks: &mut [u32], at: usize, hint: usize) -> Option<usize>
+    requires { length marks.old ≡ length classes.words.now }
+    ensures { MarksEach (keys_of enums classes.entry.s.now classes.entry.words.now) (type_named classes.entry.s.now at) result marks.old marks.new }
 {
-    let mut next = classes.from;
-    for i in blocks.from..blocks.to {
-        next = mark_parameters(s, index, classes, marks, word_at(index, i), next)?;
-    }
-    Some(next)
+    mark_class(classes, marks, connector_type_at(classes.s, at), hint)
 }
 
-// Marks the classes that value types of connectors name.
-fn mark_types(
-    s: &[u8],
-    index: &mut [u32],
-    classes: Table,
-    connectors: Table,
-    marks: usize,
-) -> Option<usize>
-    requires keyed { Keyed enums s.now index.old classes.from classes.to marks }
-    requires below { connectors.to ≤ marks }
-    ensures { MarksEach enums s.now classes.from classes.to marks (gather (λ c. type_class (value_type_of c)) (map (value_at (entry connector_entries) s.now) (span index.old connectors.from connectors.to))) result index.old index.new }
-{
-    let mut next = classes.from;
-    for i in connectors.from..connectors.to {
-        let at = connector_type_at(s, word_at(index, i));
-        next = mark_class(s, index, classes, marks, at, next)?;
-    }
-    Some(next)
-}
-
-// Marks the classes that parameters and value types name.
+// Marks the classes that parameters of blocks and value types of connectors name.
 fn mark_classes(
-    s: &[u8],
-    index: &mut [u32],
-    classes: Table,
-    blocks: Table,
-    connectors: Table,
-    marks: usize,
+    classes: Classes,
+    marks: &mut [u32],
+    blocks: &[u32],
+    connectors: &[u32],
 ) -> Option<usize>
-    requires keyed { Keyed enums s.now index.old classes.from classes.to marks }
-    requires below { (blocks.to ≤ marks) × (connectors.to ≤ marks) }
-    ensures { MarksEach enums s.now classes.from classes.to marks (gather param_classes (map (value_at (entry block_entries) s.now) (span index.old blocks.from blocks.to)) ++ gather (λ c. type_class (value_type_of c)) (map (value_at (entry connector_entries) s.now) (span index.old connectors.from connectors.to))) result index.old index.new }
+    requires { length marks.old ≡ length classes.words.now }
+    ensures { MarksEach (keys_of enums classes.entry.s.now classes.entry.words.now) (gather (classes_named classes.entry.s.now) blocks.now ++ gather (type_named classes.entry.s.now) connectors.now) result marks.old marks.new }
 {
-    mark_all_parameters(s, index, classes, blocks, marks)?;
-    mark_types(s, index, classes, connectors, marks)
+    mark_each(classes, marks, blocks, mark_parameters)?;
+    mark_each(classes, marks, connectors, mark_type)
 }
 
-// Question 16.
+// Question 16, with a mark for each class.
+// Not one function with `ports_are` over a closure: tried, and what its callers owe of such a closure did not prove.
 pub(crate) fn classes_are(
-    s: &[u8],
-    index: &mut [u32],
-    classes: Table,
-    blocks: Table,
-    connectors: Table,
-    marks: usize,
+    classes: Classes,
+    blocks: &[u32],
+    connectors: &[u32],
+    marks: &mut [u32],
 ) -> bool
-    requires keyed { Keyed enums s.now index.old classes.from classes.to marks }
-    requires below { (blocks.to ≤ marks) × (connectors.to ≤ marks) }
-    ensures value { result ≡ same_set (keys_at enums s.now index.old classes.from classes.to) (gather param_classes (map (value_at (entry block_entries) s.now) (span index.old blocks.from blocks.to)) ++ gather (λ c. type_class (value_type_of c)) (map (value_at (entry connector_entries) s.now) (span index.old connectors.from connectors.to))) }
-    ensures kept { Kept marks (marks + (classes.to - classes.from)) index.old index.new }
+    requires { length marks.old ≡ length classes.words.now }
+    ensures { result ≡ same_set (gather (classes_named classes.entry.s.now) blocks.now ++ gather (type_named classes.entry.s.now) connectors.now) (keys_of enums classes.entry.s.now classes.entry.words.now) }
 {
-    let end = marks + (classes.to - classes.from);
-    clear(index, marks, end);
-    mark_classes(s, index, classes, blocks, connectors, marks).is_some()
-        && all_marked(index, marks, end)
+    marks.fill(0);
+    let met = mark_classes(classes, marks, blocks, connectors);
+    all_met(met, marks)
 }

@@ -1,22 +1,15 @@
-use Rattle.state_declarations.proofs.Holds.{all-next, all-no, all_end}
-use Rattle.state_declarations.proofs.Parts.{members-some, members-none}
-use Rattle.state_declarations.proofs.Walks.{words-next, words-end}
-use Rattle.questions.specs.Declarations.{has_member}
-use Rattle.format.specs.Values.{value_at}
-use Rattle.format.specs.Manifest.{entry, enums}
+use mathlib.Core.Path.{◌≡◌, ◌∙◌}
+use mathlib.Core.Bool.{true, false}
+use Rattle.std.proofs.Common.{rules}
+use Rattle.std.proofs.lemmas.Iterator.{cases_from_all, YieldsList-from_slice}
+use borrow.Author.Tests.{tests}
+use Rattle.state_layout.proofs.Every.{every}
+use Rattle.state_declarations.proofs.Parts.{has_member_at, members_none, members_some, members-map}
 use Rattle.state_declarations.proofs.members_there.Goals as goal
 
-pub returns-then-count_at-eq0 : goal.returns-then-count_at-eq0
-returns-then-count_at-eq0 c =
-    all-no has_member
-    (words-next (value_at (entry enums) c.args.s.now) _ _ _ c.loop-i-test.true c.requires c.word_at.ensures)
-    (members-none _ _ c.text_end.ensures c.count_at.ensures c.if-count_at-eq0.true) c.loop-i.invariant
-
-pub loop-i-preserved : goal.loop-i-preserved
-loop-i-preserved c =
-    all-next has_member
-    (words-next (value_at (entry enums) c.args.s.now) _ _ _ c.loop-i-test.true c.requires c.word_at.ensures)
-    (members-some _ _ c.text_end.ensures c.count_at.ensures c.if-count_at-eq0.false) c.loop-i.invariant
-
 pub returns : goal.returns
-returns c = all_end has_member (words-end (value_at (entry enums) c.args.s.now) _ _ _ c.loop-i-test.false) c.loop-i.invariant
+returns c =
+    let t = has_member_at c.args.s.now in
+    every t c.all.result c.args.classes.now
+    (cases_from_all _ _ c.all.result (λ q. t q ≡ true) (λ q. t q ≡ false) c.all.ensures.ran (YieldsList-from_slice _ c.iter.ensures.rest) (λ x q k. search (rules, tests, members_none, members_some)) (λ x q k. search (rules, tests, members_none, members_some)))
+    ∙ members-map c.args.s.now c.args.classes.now

@@ -1,5 +1,5 @@
 use Rattle.state_declarations.proofs.Holds.{BlocksLeft}
 use Rattle.state_declarations.proofs.blocks.blocks_answer.Given as goal
 
-abbrev pub invariant-loop-i : goal.invariant-loop-i
-invariant-loop-i l = BlocksLeft l.s l.index l.classes.from l.classes.to l.fn.blocks.from l.i-end l.i
+abbrev pub invariant-loop-word : goal.invariant-loop-word
+invariant-loop-word l = BlocksLeft l.classes.s.now l.classes.words.now l.blocks l.word-index
