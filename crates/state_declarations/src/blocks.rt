@@ -12,12 +12,13 @@ ghost use Rattle.questions.specs.Declarations.{kind_holds, params_hold, block_an
 ghost use Rattle.state_layout.specs.Keys.{classes_of};
 ghost use Rattle.state_declarations.specs.Each.{each_in, Asked, inputs_at, outputs_at, has_class, is_port, are_ports};
 
-use super::parameter_end;
 use state::{BlockKind, Question, WireDir};
 use state_index::keys::{block_key_end, byte_at, connector_key_end, count_at, number_at};
 use state_index::{ahead, text_end};
 use state_key_order::same_bytes;
-use state_layout::ends::{block_kind_at, connector_keys_end, parameters_at, parameters_end};
+use state_layout::ends::{
+    block_kind_at, connector_keys_end, parameter_end, parameters_at, parameters_end,
+};
 use state_layout::keys::{Classes, validate_value_enum};
 use state_wire::part;
 

@@ -19,17 +19,8 @@ use sets::{classes_are, ports_are};
 use state::{Question, Section};
 use state_index::keys::count_at;
 use state_index::text_end;
-use state_layout::ends::value_end;
 use state_layout::keys::{Classes, Connectors, keys_of};
 use state_layout::{room_start, table_of};
-
-// Where the parameter at a position ends.
-#[tactic(auto, unfolding(format::specs::Places::past))]
-pub(crate) fn parameter_end(s: &[u8], at: usize) -> usize
-    ensures { result ≡ past (text then value) s.now at }
-{
-    value_end(s, text_end(s, at))
-}
 
 // Question 11 of the classes that words list.
 fn members_there(s: &[u8], classes: &[u32]) -> bool

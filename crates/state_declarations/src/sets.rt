@@ -10,11 +10,12 @@ ghost use Rattle.state_layout.specs.Marks.{marks_of};
 ghost use Rattle.state_layout.specs.Keys.{keys_of};
 ghost use Rattle.state_declarations.specs.Each.{names_in, MarksEach, Naming, ListNaming, keys_named, ports_named, class_at, classes_named, type_named};
 
-use super::parameter_end;
 use state::WireValueType;
 use state_index::keys::{byte_at, connector_key_end, count_at};
 use state_index::{ahead, text_end, text_part};
-use state_layout::ends::{connector_keys_end, connector_type_at, parameters_at, parameters_end};
+use state_layout::ends::{
+    connector_keys_end, connector_type_at, parameter_end, parameters_at, parameters_end,
+};
 use state_layout::keys::{Classes, Connectors, all_marked};
 use state_wire::part;
 

@@ -86,7 +86,7 @@ pub fn members_end(s: &[u8], at: usize) -> usize
     list_end(s, at, text_end)
 }
 
-fn parameter_end(s: &[u8], at: usize) -> usize
+pub fn parameter_end(s: &[u8], at: usize) -> usize
     ensures { result ≡ past (text then value) s.now at }
 {
     value_end(s, text_end(s, at))
