@@ -13,6 +13,8 @@ use state_key_order::{KeyRefusal, KeysCompared};
 use state_reader::StringRead;
 use std::cmp::Ordering;
 
+// Numbers for cases, here and in the two functions below: C takes results and words as include/archive.h has them. `as` where a position
+// becomes a word, since std has no `From` between usize and u64: both have 64 bits.
 fn code_of(order: Ordering) -> u32
     ensures { result ≡ order_code order }
 {

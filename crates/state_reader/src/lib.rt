@@ -24,13 +24,9 @@ pub type StringRead = Result<Range<usize>, Refusal<u64>>;
 pub fn string_at(s: &[u8], at: usize, base: u64, limit: usize) -> StringRead
     ensures { result ≡ string_read base at (read_text limit s.now at) }
 {
-    match state_wire::string_bounded(s, at, limit) {
-        Ok(next) => Ok(at + 4..next),
-        Err(refusal) => Err(Refusal {
-            question: refusal.question,
-            at: state_wire::offset(base, refusal.at),
-        }),
-    }
+    let read = state_wire::string_bounded(s, at, limit);
+    let next = read.map_err(|r| r.question.at(state_wire::offset(base, r.at)))?;
+    Ok(at + 4..next)
 }
 
 // Where reading goes on after a number: a refused one leaves the place.
@@ -40,7 +36,7 @@ pub fn past_field(f: Field, at: usize) -> usize
     f.map_or(at, |(_, next)| next)
 }
 
-// Each method takes the reader apart for one call or comparison.
+// Each method takes the reader apart for one call or comparison. `u8`, `u32` and `u64` have the Rust's names, where `read_number` is one for all.
 impl<'a> Reader<'a> {
     pub fn new(bytes: &'a [u8], base_offset: u64) -> Reader<'a>
         ensures { result ≡ opened bytes.entry base_offset }
@@ -56,11 +52,7 @@ impl<'a> Reader<'a> {
     pub fn moved(self, position: usize) -> Reader<'a>
         ensures { result ≡ moved_to self.entry position }
     {
-        Reader {
-            bytes: self.bytes,
-            position,
-            base_offset: self.base_offset,
-        }
+        Reader { position, ..self }
     }
 
     pub fn offset(self) -> u64
