@@ -1,23 +1,25 @@
 -- Marking several keys, one after the other.
-use Prim.Native.Nat.{suc, ◌+◌, ◌-◌, ◌≤◌, ◌<◌}
+use Prim.Native.Nat.{suc, min, ◌+◌, ◌-◌, ◌≤◌, ◌<◌}
 use native.Mathlib.Omega.{arith}
 use native.Mathlib.Numerals.{add-one}
 use mathlib.Core.Path.{◌≡◌, refl, sym, ap, ◌∙◌}
 use mathlib.Core.Bool.{Bool, true, false, ◌&&◌, ◌||◌, and_assoc, or_assoc, or_comm, or-false}
 use mathlib.Core.List.{List, [], ◌∷◌, ◌++◌}
+use borrow.Author.Tests.{eq-eqb, ne_eqb}
 use lib.ListN.{length, get_or, drop, replicate, length-map, drop_of_length-le}
 use lib.Seq.{drop-cons}
 use Rattle.std.specs.Prelude.{Option, Some, None, ℕ}
 use Rattle.std.specs.Option.{is_some}
 use Rattle.format.specs.Lists.{same, is_in}
 use Rattle.format.specs.Manifest.{Section}
-use Rattle.format.specs.Format.{Fmt}
+use Rattle.format.specs.Format.{Fmt, text}
 use Rattle.format.specs.Places.{key_at, past}
+use Rattle.format.specs.Values.{value_at}
 use Rattle.questions.specs.Sets.{all, all_in, gather, same_set}
 use Rattle.state_layout.specs.Marks.{is_set, marks_of}
 use Rattle.state_layout.specs.Keys.{keys_of, Met}
 use Rattle.state_layout.proofs.Marked.{get-map, key_in, marks-none, all_set}
-use Rattle.state_declarations.specs.Each.{names_from, met, MarksEach}
+use Rattle.state_declarations.specs.Each.{names_from, class_at, met, MarksEach}
 
 -- ---- keys that were met
 met-append : (ks ls seen : List (List ℕ)) → met (ks ++ ls) seen ≡ met ls (met ks seen)
@@ -66,8 +68,8 @@ module _ {listed : List (List ℕ)} where
 
 -- one key
 module _ (e : Section) (s words key : List ℕ) {f : Option ℕ} {old new : List ℕ} (m : Met e s words key f old new) where
-  pub place-there : {i : ℕ} → f ≡ Some i → i < length words
-  place-there {i} g = (m.found.at i g).0
+  pub place_there : {i : ℕ} → f ≡ Some i → i < length words
+  place_there {i} g = (m.found.at i g).0
 
   pub each_one : {i : ℕ} → f ≡ Some i → (w : ℕ) → MarksEach (keys_of e s words) (key ∷ []) (Some w) old new
   unfolding met all_in all
@@ -88,7 +90,18 @@ module _ (e : Section) (s words key : List ℕ) {f : Option ℕ} {old new : List
       go None g = each_lost g g
       go (Some i) g = rw g (each_one g i)
 
-pub ruleset marked = (each_one, each_lost, place-there)
+pub ruleset marked = (each_one, each_lost, place_there)
+
+-- the class of the value or the value type at a position, if it has one
+module _ (s : List ℕ) (at : ℕ) {t : ℕ} (e : t ≡ get_or s at 0) where
+  pub class_none : (t ≡ 4 → ⊥) → (listed : List (List ℕ)) (w : ℕ) (l : List ℕ) → MarksEach listed (class_at s at) (Some w) l l
+  unfolding class_at
+  class_none n listed w l = rw (← e, ne_eqb t 4 n) (each_none w l)
+
+  pub class_one : t ≡ 4 → {start : ℕ} → start ≡ min (at + 1) (length s) → {key : List ℕ} → key ≡ value_at text s start
+      → (z : Section) (u words : List ℕ) {f : Option ℕ} {old new : List ℕ} → Met z u words key f old new → MarksEach (keys_of z u words) (class_at s at) f old new
+  unfolding class_at
+  class_one n i {key} j z u words m = rw (← e, eq-eqb t 4 n, ← i, ← j) (each_met z u words key m)
 
 -- ---- loops that mark: whatever marks those that are left marks all
 pub record Marking (listed keys rest : List (List ℕ)) (old now : List ℕ) : Type 0 where

@@ -110,9 +110,9 @@ module _ (s : List ℕ) where
   params-from es i zero p = refl
   params-from es i (suc n) p = ap (λ b. has_class s es p && b) (params-from es (suc i) n (past value s (past text s p)))
 
-  pub params-hold : (es : List (Entry enums)) (at : ℕ) → each_in (text then value) s (λ place start. has_class s es start) (params_at s at) ≡ params_hold es (value_at (entry blocks) s at)
+  pub params_passed : (es : List (Entry enums)) (at : ℕ) {list : ℕ} → list ≡ params_at s at → {b : Bool} → b ≡ each_in (text then value) s (λ place start. has_class s es start) list → b ≡ params_hold es (value_at (entry blocks) s at)
   unfolding params_hold params_of block_rest params value_at
-  params-hold es at = params-from es 0 (number_at 4 s (params_at s at)) (min (params_at s at + 4) (length s))
+  params_passed es at e h = h ∙ rw e (params-from es 0 (number_at 4 s (params_at s at)) (min (params_at s at + 4) (length s)))
 
   -- ---- a port at a position, whose owner ends there, and a block
   module _ (block way place at : ℕ) {end e : ℕ} {own key : List ℕ} {b : Bool} (ee : end ≡ past block_key s at) (eb : e ≡ past block_key s block) (eo : own ≡ span s at end) (ek : key ≡ span s block e) (es : b ≡ same own key) where
@@ -180,15 +180,6 @@ module _ (s : List ℕ) where
     all-ports (p ∷ words) w = rw (ports-are p w.0, all-ports words w.1)
 
   -- ---- classes of values and of value types
-  module _ (at : ℕ) {t : ℕ} (e : t ≡ get_or s at 0) where
-    pub class_none : (t ≡ 4 → ⊥) → class_at s at ≡ []
-    unfolding class_at
-    class_none n = rw (← e, ne_eqb t 4 n)
-
-    pub class_one : t ≡ 4 → {start : ℕ} {key : List ℕ} → start ≡ min (at + 1) (length s) → key ≡ value_at text s start → class_at s at ≡ key ∷ []
-    unfolding class_at
-    class_one n i j = rw (← e, eq-eqb t 4 n, j, i)
-
   class-at : (at : ℕ) → value_class (value_at value s at) ≡ class_at s at
   unfolding class_at
   class-at at = value-class s at

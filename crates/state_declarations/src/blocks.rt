@@ -35,6 +35,7 @@ fn kind_holds(s: &[u8], at: usize) -> bool
 }
 
 // Does each entry of the counted list at a position pass? It is asked by its place and by where it starts.
+// Not `try_fold`: it would hand the position on in an `Option`, from a closure in a closure.
 fn each_holds<K: Copy, E: Fn(&[u8], usize) -> usize, H: Fn(K, usize, usize) -> bool>(
     s: &[u8],
     at: usize,
@@ -67,6 +68,7 @@ fn parameter_holds(classes: Classes, _place: usize, at: usize) -> bool
 }
 
 // Question 13 of the block at a position.
+#[tactic(auto, using(crate::proofs::Parts::params_passed))]
 fn parameters_hold(classes: Classes, at: usize) -> bool
     ensures { result ≡ params_hold (classes_of classes.entry.s.now classes.entry.words.now) (value_at (entry block_entries) classes.entry.s.now at) }
 {
@@ -104,6 +106,7 @@ fn port_holds(side: Side, place: usize, at: usize) -> bool
 }
 
 // Question 14 of the ports that the list at a position has.
+#[tactic(auto, unfolding(crate::specs::Each::are_ports))]
 fn side_holds(s: &[u8], block: usize, way: u8, at: usize) -> bool
     ensures { result ≡ are_ports s.now block way at }
 {
@@ -138,7 +141,7 @@ fn block_answer(classes: Classes, at: usize) -> Result<(), Question>
     Ok(())
 }
 
-// The first of them that is answered no.
+// The first of them that is answered no. Not `try_for_each`: tried, and what it owes of each call did not prove.
 pub(crate) fn blocks_answer(classes: Classes, blocks: &[u32]) -> Result<(), Question>
     requires are_bytes { AreBytes classes.s.now }
     requires all { All (Well max_snapshot_bytes (entry block_entries) classes.s.now) blocks.now }

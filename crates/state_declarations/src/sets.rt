@@ -20,6 +20,7 @@ use state_layout::keys::{Classes, Connectors, all_marked};
 use state_wire::part;
 
 // Marks what the entry at each word names: a step is given the place to try first, and gives the one to try next.
+// Not `try_fold`: tried, and that its closure leaves the borrowed marks as long as they were did not prove.
 fn mark_each<K: Copy, F: Fn(K, &mut [u32], usize, usize) -> Option<usize>>(
     keys: K,
     marks: &mut [u32],
@@ -95,6 +96,7 @@ fn mark_key(
 }
 
 // Marks the connectors that the list of keys at a position names.
+#[tactic(auto, unfolding(crate::specs::Each::keys_named))]
 fn mark_keys(connectors: Connectors, marks: &mut [u32], at: usize, hint: usize) -> Option<usize>
     requires { length marks.old ≡ length connectors.words.now }
     ensures { MarksEach (keys_of connector_entries connectors.entry.s.now connectors.entry.words.now) (keys_named connectors.entry.s.now at) result marks.old marks.new }
@@ -158,6 +160,7 @@ fn mark_parameter(
 }
 
 // Marks the classes that parameters of the block at a position name.
+#[tactic(auto, unfolding(crate::specs::Each::classes_named))]
 fn mark_parameters(classes: Classes, marks: &mut [u32], at: usize, hint: usize) -> Option<usize>
     requires { length marks.old ≡ length classes.words.now }
     ensures { MarksEach (keys_of enums classes.entry.s.now classes.entry.words.now) (classes_named classes.entry.s.now at) result marks.old marks.new }
