@@ -8,7 +8,6 @@ use lib.ListN.{length}
 use Rattle.std.specs.Prelude.{Result, Ok, Err}
 use Rattle.state.specs.declared.Question.{Question}
 use Rattle.state.specs.Outcome.{said}
-use Rattle.state.specs.Bytes.{AreBytes}
 use Rattle.format.specs.Admits.{All}
 use Rattle.format.specs.Format.{El}
 use Rattle.format.specs.Manifest.{entry, enums, blocks, connectors, manifest}
@@ -29,80 +28,81 @@ same-turned : (ks ls : List (List ℕ)) → same_set ks ls ≡ same_set ls ks
 unfolding same_set
 same-turned ks ls = and_comm (all_in ks ls) (all_in ls ks)
 
--- ---- what the words list: those of the classes, es, of the blocks, bs, and of the connectors, cs
-module _ {s tables : List ℕ} (t : Laid s tables) where
+-- the words es, bs and cs list the classes, the blocks and the connectors; what was answered of them, in order, and the first no
+module _ {s tables : List ℕ} (t : Laid s tables) {u es : List ℕ} (e : (u ≡ s) × (es ≡ table_of 2 s tables)) where
   abbrev whole : El manifest
   whole = manifest_of s
 
-  module _ {u es : List ℕ} (e : (u ≡ s) × (es ≡ table_of 2 s tables)) where
-    classes-there : Table enums s es (enums_of whole)
-    classes-there = rw e.1 (table-enums t)
+  abbrev answered : Result Unit Question
+  answered = said (first (declarations whole))
 
-    pub members-are : {x : Bool} → x ≡ all has_member (classes_of s es) → x ≡ all has_member (enums_of whole)
-    members-are h = h ∙ ap (all has_member) classes-there.values
+  classes-there : Table enums s es (enums_of whole)
+  classes-there = rw e.1 (table-enums t)
 
-    pub classes-fit : {n : ℕ} → room_end s ≤ room_start s + n → length es ≤ n
-    classes-fit l = let a = ap length e.1 ∙ table_long t 2 (omega arith) in let r = rows whole in omega arith
+  pub classes_fit : {n : ℕ} → room_end s ≤ room_start s + n → length es ≤ n
+  classes_fit l = let a = ap length e.1 ∙ table_long t 2 (omega arith) in let r = rows whole in omega arith
 
-    module _ {bs : List ℕ} (b : bs ≡ table_of 3 s tables) where
+  pub blocks_well : {bs : List ℕ} → bs ≡ table_of 3 s tables → All (Well limit (entry blocks) u) bs
+  blocks_well b = rw (e.0, b) (table-blocks t).well
+
+  module _ {x : Bool} (ex : x ≡ all has_member (classes_of s es)) where
+    members : all has_member (enums_of whole) ≡ x
+    members = sym (ex ∙ ap (all has_member) classes-there.values)
+
+    pub no_11 : x ≡ false → Err (record { 0 = 11 }) ≡ answered
+    unfolding declarations first ◌unless◌
+    no_11 h = rw (members, h)
+
+    module _ (hx : x ≡ true) {bs : List ℕ} (b : bs ≡ table_of 3 s tables) {r : Result Unit Question}
+        (er : r ≡ said (first (map (block_answer (classes_of u es)) (map (value_at (entry blocks) u) bs)))) where
       blocks-there : Table blocks s bs (blocks_of whole)
       blocks-there = rw b (table-blocks t)
 
-      pub bytes-are : AreBytes u
-      bytes-are = rw e.0 t.bytes
+      abbrev of_blocks : ℕ
+      of_blocks = first (map (block_answer (enums_of whole)) (blocks_of whole))
 
-      pub blocks-well : All (Well limit (entry blocks) u) bs
-      blocks-well = rw e.0 blocks-there.well
+      blocks-are : r ≡ said of_blocks
+      blocks-are = er ∙ rw (e.0, classes-there.values, blocks-there.values)
 
-      pub blocks-are : {r : Result Unit Question} → r ≡ said (first (map (block_answer (classes_of u es)) (map (value_at (entry blocks) u) bs))) → r ≡ said (first (map (block_answer (enums_of whole)) (blocks_of whole)))
-      blocks-are h = h ∙ rw (e.0, classes-there.values, blocks-there.values)
+      abbrev behind : List ℕ
+      behind = 15 unless (ports_are (blocks_of whole) (connectors_of whole)) ∷ 16 unless (classes_are (enums_of whole) (blocks_of whole) (connectors_of whole)) ∷ []
 
-      module _ {v cs : List ℕ} (f : (v ≡ s) × (cs ≡ table_of 4 s tables)) where
+      pub no_block : {d : Question} → r ≡ Err d → Err d ≡ answered
+      unfolding declarations first ◌unless◌
+      no_block h = rw (members, hx) (answered-no of_blocks blocks-are h behind)
+
+      module _ (hr : r ≡ Ok tt) {v cs : List ℕ} (f : (v ≡ s) × (cs ≡ table_of 4 s tables)) {y : Bool} (ey : y ≡ same_set (gather (ports_named v) bs) (keys_of connectors v cs)) where
+        left : first (declarations whole) ≡ first behind
+        unfolding declarations first ◌unless◌
+        left = rw (members, hx) (sym (answered-yes of_blocks blocks-are hr behind))
+
         connectors-there : Table connectors s cs (connectors_of whole)
         connectors-there = rw f.1 (table-connectors t)
 
-        pub ports-same : {x : Bool} → x ≡ same_set (gather (ports_named v) bs) (keys_of connectors v cs) → x ≡ ports_are (blocks_of whole) (connectors_of whole)
+        ports-same : ports_are (blocks_of whole) (connectors_of whole) ≡ y
         unfolding ports_are
-        ports-same h = h ∙ rw (f.0, all-ports s t.bytes bs blocks-there.well, blocks-there.values, names-connectors t.bytes connectors-there)
+        ports-same = sym (ey ∙ rw (f.0, all-ports s t.bytes bs blocks-there.well, blocks-there.values, names-connectors t.bytes connectors-there))
 
-        pub classes-same : {x : Bool} → x ≡ same_set (gather (classes_named u) bs ++ gather (type_named u) cs) (keys_of enums u es) → x ≡ classes_are (enums_of whole) (blocks_of whole) (connectors_of whole)
-        unfolding classes_are
-        classes-same h =
-            h
-            ∙ rw (e.0, all-classes s bs, all-types s cs, blocks-there.values, connectors-there.values, paths-enums classes-there) (same-turned _ _)
-
-  pub connectors-fit : {v cs : List ℕ} → (v ≡ s) × (cs ≡ table_of 4 s tables) → {n : ℕ} → room_end s ≤ room_start s + n → length cs ≤ n
-  connectors-fit f l = let a = ap length f.1 ∙ table_long t 4 (omega arith) in let r = rows whole in omega arith
-
--- ---- the first that says no
-module _ (m : El manifest) {x : Bool} (ex : x ≡ all has_member (enums_of m)) where
-  pub says-11 : x ≡ false → Err (record { 0 = 11 }) ≡ said (first (declarations m))
-  unfolding declarations first ◌unless◌
-  says-11 h = rw (← ex, h)
-
-  module _ (hx : x ≡ true) {r : Result Unit Question} (er : r ≡ said (first (map (block_answer (enums_of m)) (blocks_of m)))) where
-    abbrev behind : List ℕ
-    behind = 15 unless (ports_are (blocks_of m) (connectors_of m)) ∷ 16 unless (classes_are (enums_of m) (blocks_of m) (connectors_of m)) ∷ []
-
-    pub says-block : {d : Question} → r ≡ Err d → Err d ≡ said (first (declarations m))
-    unfolding declarations first ◌unless◌
-    says-block h = rw (← ex, hx) (answered-no (first (map (block_answer (enums_of m)) (blocks_of m))) er h behind)
-
-    module _ (hr : r ≡ Ok tt) where
-      left : first (declarations m) ≡ first behind
-      unfolding declarations first ◌unless◌
-      left = rw (← ex, hx) (sym (answered-yes (first (map (block_answer (enums_of m)) (blocks_of m))) er hr behind))
-
-      module _ {y : Bool} (ey : y ≡ ports_are (blocks_of m) (connectors_of m)) where
-        pub says-15 : y ≡ false → Err (record { 0 = 15 }) ≡ said (first (declarations m))
+        pub no_15 : y ≡ false → Err (record { 0 = 15 }) ≡ answered
         unfolding first ◌unless◌
-        says-15 h = rw (left, ← ey, h)
+        no_15 h = rw (left, ports-same, h)
 
-        module _ (hy : y ≡ true) {z : Bool} (ez : z ≡ classes_are (enums_of m) (blocks_of m) (connectors_of m)) where
-          pub says-16 : z ≡ false → Err (record { 0 = 16 }) ≡ said (first (declarations m))
-          unfolding first ◌unless◌
-          says-16 h = rw (left, ← ey, hy, ← ez, h)
+        module _ (hy : y ≡ true) {z : Bool} (ez : z ≡ same_set (gather (classes_named u) bs ++ gather (type_named u) cs) (keys_of enums u es)) where
+          classes-same : classes_are (enums_of whole) (blocks_of whole) (connectors_of whole) ≡ z
+          unfolding classes_are
+          classes-same =
+              sym (ez
+              ∙ rw (e.0, all-classes s bs, all-types s cs, blocks-there.values, connectors-there.values, paths-enums classes-there) (same-turned _ _))
 
-          pub says_none : z ≡ true → Ok tt ≡ said (first (declarations m))
+          pub no_16 : z ≡ false → Err (record { 0 = 16 }) ≡ answered
           unfolding first ◌unless◌
-          says_none h = rw (left, ← ey, hy, ← ez, h)
+          no_16 h = rw (left, ports-same, hy, classes-same, h)
+
+          pub all_yes : z ≡ true → Ok tt ≡ answered
+          unfolding first ◌unless◌
+          all_yes h = rw (left, ports-same, hy, classes-same, h)
+
+pub connectors_fit : {s tables : List ℕ} → Laid s tables → {v cs : List ℕ} → (v ≡ s) × (cs ≡ table_of 4 s tables) → {n : ℕ} → room_end s ≤ room_start s + n → length cs ≤ n
+connectors_fit {s} t f l = let a = ap length f.1 ∙ table_long t 4 (omega arith) in let r = rows (manifest_of s) in omega arith
+
+pub ruleset asked = (classes_fit, connectors_fit, blocks_well, no_11, no_block, no_15, no_16, all_yes)

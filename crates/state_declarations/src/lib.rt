@@ -32,6 +32,7 @@ fn members_there(s: &[u8], classes: &[u32]) -> bool
 }
 
 // The first that is answered no.
+#[tactic(auto, using(crate::proofs::Asking::asked))]
 fn answer(s: &[u8], tables: &[u32], room: &mut [u32]) -> Result<(), Question>
     requires laid { Laid s.now tables.now }
     requires long { room_end s.now ≤ room_start s.now + length room.old }
