@@ -12,9 +12,6 @@ blocks-2-init c =
     let e = c.enter-counts.ensures in
     walk_start _ _ c.requires e.counts.0 e.counts.1 e.places.0 e.places.1
 
-pub blocks-2-smaller : goal.blocks-2-smaller
-blocks-2-smaller c = omega (arith, c.blocks-2.invariant.reached)
-
 pub loop-j-init : goal.loop-j-init
 unfolding params
 loop-j-init c =
@@ -22,9 +19,6 @@ loop-j-init c =
     let m = c.compare_head.ensures.moved c.in_default.is in
     let e = c.enter-parameters.ensures in
     walk-here 6 (late plain) (params-both _ _ _ _ m.snapshot m.target b) e.counts.0 e.counts.1 e.places.0 e.places.1
-
-pub compare_parameter-requires : goal.compare_parameter-requires
-compare_parameter-requires c = walk-both c.loop-j.invariant (omega arith)
 
 pub loop-j-preserved : goal.loop-j-preserved
 loop-j-preserved c =

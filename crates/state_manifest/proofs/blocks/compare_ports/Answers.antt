@@ -1,7 +1,7 @@
 use mathlib.Core.Path.{◌∙◌}
 use Rattle.format.specs.Manifest.{connector_keys}
 use Rattle.format.specs.Places.{past}
-use Rattle.state_manifest.proofs.Comparing.{or-next, both_first, both-next}
+use Rattle.state_manifest.proofs.Comparing.{both_first, both-next}
 use Rattle.state_manifest.proofs.blocks.compare_ports.Goals as goal
 
 pub compare_port_bindings-requires-clause-both : goal.compare_port_bindings-requires-clause-both
@@ -13,11 +13,6 @@ unfolding connector_keys
 compare_port_bindings-requires-2-clause-both c =
     let m = c.compare_port_bindings.ensures.moved c.in_ok-compare_port_bindings.was in
     both-next connector_keys connector_keys c.requires m.snapshot m.target
-
-pub returns-clause-verdict : goal.returns-clause-verdict
-returns-clause-verdict c =
-    let m = c.compare_port_bindings.ensures.moved c.in_ok-compare_port_bindings.was in
-    or-next c.compare_port_bindings.ensures.verdict c.in_ok-compare_port_bindings.was (c.compare_port_bindings-2.ensures.verdict ∙ rw (m.snapshot, m.target))
 
 pub returns-clause-moved : goal.returns-clause-moved
 unfolding past

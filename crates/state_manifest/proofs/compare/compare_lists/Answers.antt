@@ -1,7 +1,7 @@
 use native.Mathlib.Omega.{arith}
-use mathlib.Core.Path.{◌≡◌, ◌∙◌, ap, refl}
+use mathlib.Core.Path.{◌≡◌, ◌∙◌, ap}
 use Rattle.std.proofs.Common.{rules}
-use Rattle.state_manifest.proofs.Comparing.{entries_told, walk_start, walk-both, walk-found, walk-next, walk_end, walk-ended}
+use Rattle.state_manifest.proofs.Comparing.{entries_told, walk_start, walk-both, walk-found, walk-next, walk_end}
 use Rattle.state_manifest.proofs.compare.compare_lists.Goals as goal
 
 pub loop-i-init : goal.loop-i-init
@@ -30,10 +30,3 @@ returns-clause-verdict g c =
     let r = c.requires.1.1.1.1.1.1.1 in
     let d : c.at_count.result ≡ g.lists.of_count c.loop-i.i = r.count-so c.at_count.ensures ∙ ap g.lists.of_count (omega arith) in
     walk_end c.loop-i.invariant (omega (arith, c.loop-i.invariant.reached)) (c.compare_counts.ensures ∙ rw d)
-
-pub returns-clause-moved : goal.returns-clause-moved
-returns-clause-moved g c = λ o.
-    let r = c.requires.1.1.1.1.1.1.1 in
-    let d : c.at_count.result ≡ g.lists.of_count c.loop-i.i = r.count-so c.at_count.ensures ∙ ap g.lists.of_count (omega arith) in
-    let e = walk-ended c.loop-i.invariant (omega (arith, c.loop-i.invariant.reached)) (c.compare_counts.ensures ∙ rw d) refl o in
-    record { snapshot = e.0; target = e.1 }
