@@ -92,10 +92,11 @@ impl<'a, const SECTION: u8> Keys<'a, SECTION> {
         ensures { MetNew (numbered SECTION) self.entry.s.now self.entry.words.now key.now result marks.old marks.new }
     {
         let i = self.find(key, hint)?;
-        if marks[i] != 0 {
+        let mark = &mut marks[i];
+        if *mark != 0 {
             return None;
         }
-        marks[i] = 1;
+        *mark = 1;
         Some(i)
     }
 }
