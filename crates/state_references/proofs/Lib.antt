@@ -1,5 +1,5 @@
 -- `Telling`: what is asked of entries one by one. `Meeting`: what is asked of them together. `Valued`: what stands at positions is what the
--- values that were read say. `Answered`: the questions.
+-- values that were read say. `Answered`: the questions, one after another.
 pub mod Telling
 pub mod Meeting
 pub mod Valued

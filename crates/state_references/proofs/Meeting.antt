@@ -65,14 +65,6 @@ new-each names seen (k ∷ ks) =
     go true false true true true f = refl
     go true false false true e f = refl
 
-new-one : (names seen : List (List ℕ)) (k : List ℕ) (ks : List (List ℕ)) → is_in k names ≡ true → is_in k seen ≡ false → new_each names seen (k ∷ ks) ≡ new_each names (k ∷ seen) ks
-unfolding new_each
-new-one names seen k ks a b = rw (a, b)
-
-new-not : (names seen : List (List ℕ)) (k : List ℕ) (ks : List (List ℕ)) → (is_in k names && not (is_in k seen)) ≡ false → new_each names seen (k ∷ ks) ≡ false
-unfolding new_each
-new-not names seen k ks a = rw a
-
 -- all are known and different where each is known and new
 new-first : (names ks : List (List ℕ)) → new_each names [] ks ≡ (all_in ks names && all_different ks)
 new-first names ks = new-each names [] ks ∙ rw (none-in-none ks, and-true (all_different ks))

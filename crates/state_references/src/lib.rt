@@ -22,8 +22,7 @@ use state_layout::hints::fill_hints;
 use state_layout::keys::{Connectors, all_marked, keys_of};
 use state_layout::{room_start, table_of};
 
-// Whether what is asked of an entry by itself holds of each of a section's. It is given the place to try first: the one that the entry before
-// it answered.
+// Whether what is asked of an entry by itself holds of each of a section's. It is given the place to try first, which the entry before answered.
 fn entries_hold<F: Fn(Connectors, usize, usize) -> Option<usize>>(
     s: &[u8],
     tables: &[u32],
@@ -56,8 +55,8 @@ fn drivers_hold(s: &[u8], tables: &[u32], room: &[u32]) -> bool
     drivers.len() == connectors.len() && entries_hold(s, tables, room, Section::DRIVER_OF, drives)
 }
 
-// Are the keys that a section lists known, as those of section SECTION, and all different? The marks stand in front in the room, as the hints
-// are at its end.
+// Are the keys that a section lists known, as those of section SECTION, and all different? Marks stand at the front of the room, since hints
+// stand at its end.
 #[tactic(auto, using(crate::proofs::Answered::room_marks))]
 fn all_listed_new<const SECTION: u8>(s: &[u8], tables: &[u32], room: &mut [u32], listed: u8) -> bool
     requires laid { Laid s.now tables.now }

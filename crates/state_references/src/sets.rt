@@ -11,7 +11,7 @@ use state_index::{key_part, words};
 use state_layout::keys::Keys;
 
 // Are the keys that stand at words known and all different? Marks those that are met; stops at one that is unknown or was met before.
-#[tactic(auto, using(crate::proofs::Meeting::meets_start, crate::proofs::Meeting::meets_next, crate::proofs::Meeting::meets_stop, crate::proofs::Meeting::meets_all, crate::proofs::Meeting::meets_marked))]
+#[tactic(auto, using(crate::proofs::Meeting::meets_start))]
 pub(crate) fn all_new<const SECTION: u8>(
     keys: Keys<SECTION>,
     marks: &mut [u32],
@@ -22,19 +22,20 @@ pub(crate) fn all_new<const SECTION: u8>(
     ensures marked { result ≡ true → all is_set marks.new ≡ all_in (keys_of (numbered SECTION) keys.entry.s.now keys.entry.words.now) (keys_of (numbered SECTION) keys.entry.s.now listed.now) }
 {
     marks.fill(0);
-    // Not a `try_fold` as in lib.rt: of marks that a closure changes nothing is known behind it.
+    // A `try_fold` as in lib.rt did not prove: of marks that its closure changes nothing is known behind it.
     let mut hint = 0;
     for word in listed {
         let key = key_part(keys.s, SECTION, *word as usize);
         let Some(i) = keys.mark_new(marks, key, hint) else {
             return false;
         };
+        // That a plain sum fits did not prove: `mark_new` does not say that this is a place.
         hint = i.saturating_add(1);
     }
     true
 }
 
-// Are the texts at words all different? Twice as many words are room.
+// Are the texts at words all different? The room has twice as many words: a copy of these, and as many behind it for `all_distinct`.
 pub(crate) fn texts_differ(s: &[u8], names: &[u32], room: &mut [u32]) -> bool
     requires { length names.now + length names.now ≤ length room.old }
     ensures { result ≡ all_different (map (text_at s.now) names.now) }
