@@ -1,4 +1,4 @@
--- What `compare` cites: the answer at the first difference.
+-- What the code cites: how far a search for a difference came, and the answer of `compare` at the first one.
 -- Assumes nothing.
 use Prim.Native.Nat.{ℕ, zero, suc, ◌+◌, ◌-◌, min, ◌≤◌, ◌<◌}
 use mathlib.Core.List.{List, ◌++◌}
@@ -39,13 +39,14 @@ front-on a b (suc d) n h k e f =
     let m : n + suc d ≡ n + 1 + d = omega arith in
     rw m (front-on a b d (n + 1) (omega arith) (omega arith) (take_more_same a b n 0 (omega arith) (omega arith) e (f n (omega arith) (omega arith))) (λ j i l. f j (omega arith) (omega arith)))
 
--- .. up to a place, or as far as a search for a difference came
+-- .. up to a place
 module _ (a b : List ℕ) (n m : ℕ) (i : n ≤ m) (h : m ≤ length a) (k : m ≤ length b) (e : take n a ≡ take n b) where
   front-to : ((j : ℕ) → n ≤ j → j < m → get_or a j 0 ≡ get_or b j 0) → take m a ≡ take m b
   front-to f =
       let r : n + (m - n) ≡ m = omega arith in
       rw r at (front-on a b (m - n) n (omega arith) (omega arith) e (λ j p l. f j p (omega arith)))
 
+-- .. as far as a search came
 pub searched : (a b : List ℕ) (n m : ℕ) → (n ≤ m) × (m ≤ length a) × (m ≤ length b) × (take n a ≡ take n b) → (r : Option ℕ)
     → MatchOption r ((j : ℕ) → n ≤ j → j < m → get_or a j 0 ≡ get_or b j 0) (λ k. (n ≤ k) × (k < m) × (get_or a k 0 ≡ get_or b k 0 → ⊥) × ((j : ℕ) → n ≤ j → j < k → get_or a j 0 ≡ get_or b j 0))
     → MatchOption r (take m a ≡ take m b) (λ k. (k < m) × (take k a ≡ take k b) × (get_or a k 0 ≡ get_or b k 0 → ⊥))
