@@ -138,12 +138,19 @@ module _ {e : Section} {s words listed : List ℕ} where
           ∙ all-met (keys_of e s words) (keys_of e s listed)
 
 -- ---- each once: all known, all different, none left out
-pub once-is : (ks names : List (List ℕ)) → each_once ks names ≡ ((all_in ks names && all_different ks) && all_in names ks)
-unfolding each_once same_set
-once-is ks names = go (all_different ks) (all_in ks names) (all_in names ks)
-  where
-    go : (a b c : Bool) → (a && (b && c)) ≡ ((b && a) && c)
-    go true true c = refl
-    go true false c = refl
-    go false true c = refl
-    go false false c = refl
+module _ (ks names : List (List ℕ)) where
+  once-is : each_once ks names ≡ ((all_in ks names && all_different ks) && all_in names ks)
+  unfolding each_once same_set
+  once-is = go (all_different ks) (all_in ks names) (all_in names ks)
+    where
+      go : (a b c : Bool) → (a && (b && c)) ≡ ((b && a) && c)
+      go true true c = refl
+      go true false c = refl
+      go false true c = refl
+      go false false c = refl
+
+  pub once_not : {r : Bool} → r ≡ (all_in ks names && all_different ks) → r ≡ false → r ≡ each_once ks names
+  once_not i n = sym (once-is ∙ rw (← i, n))
+
+  pub once_all : {r : Bool} → true ≡ (all_in ks names && all_different ks) → r ≡ all_in names ks → r ≡ each_once ks names
+  once_all i e = e ∙ sym (once-is ∙ rw (← i))

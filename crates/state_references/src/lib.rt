@@ -7,10 +7,10 @@ mod sets;
 ghost use Rattle.std.specs.Prelude.{◌≡◌, map, ◌&&◌, ◌≤◌, ℕ, Bool, List, is_some};
 ghost use Rattle.state.specs.Outcome.{said};
 ghost use Rattle.format.specs.Lists.{all_different};
-ghost use Rattle.format.specs.Fields.{connectors_of, connections_of, drivers_of, boundary_outputs_of, external_inputs_of, output_name, output_source};
+ghost use Rattle.format.specs.Fields.{connectors_of, drivers_of, external_inputs_of, boundary_outputs_of, output_name};
 ghost use Rattle.questions.specs.Sets.{all, all_in, each_once, first};
 ghost use Rattle.questions.specs.Declarations.{connector_names};
-ghost use Rattle.questions.specs.References.{joins, drives, drivers_hold, is_directed, externals_hold, outputs_hold, references, boundaries};
+ghost use Rattle.questions.specs.References.{drivers_hold, externals_hold, outputs_hold, references, boundaries};
 ghost use Rattle.state_layout.specs.Tables.{manifest_of, table_of, Laid, Tabled, Leaves};
 ghost use Rattle.state_references.specs.Known.{names_of, of_way};
 ghost use Rattle.state_references.specs.Rooms.{Roomy, keys_listed};
@@ -71,7 +71,7 @@ fn all_listed_new<const SECTION: u8>(s: &[u8], tables: &[u32], room: &mut [u32],
 }
 
 // Are they that section's keys, each once?
-#[tactic(auto, using(crate::proofs::Answered::room_marks))]
+#[tactic(auto, using(crate::proofs::Answered::room_marks, crate::proofs::Meeting::once_all, crate::proofs::Meeting::once_not))]
 fn require_exact_set<const SECTION: u8>(
     s: &[u8],
     tables: &[u32],
