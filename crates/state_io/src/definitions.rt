@@ -72,10 +72,7 @@ pub(crate) fn definitions_answer(
     requires { Sought classes.s.now paths.now }
     ensures { result ≡ said (first (map (λ p. answer_among classes.entry.s.now (classes_of classes.entry.s.now classes.entry.words.now) paths.now (definition_at classes.entry.s.now p)) definitions.now)) }
 {
-    definitions.iter().enumerate().try_for_each(|(hint, at)| definition_answer(
-        classes,
-        paths,
-        *at as usize,
-        hint,
-    ))
+    definitions.iter().enumerate().try_for_each(|(hint, at)| {
+        definition_answer(classes, paths, *at as usize, hint)
+    })
 }

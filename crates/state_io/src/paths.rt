@@ -37,7 +37,6 @@ fn mark_inputs(connectors: Connectors, inputs: &[u32], marks: &mut [u32])
 // Puts where the paths of the marked connectors stand; the result is how many they are.
 fn put_paths(connectors: Connectors, marks: &[u32], paths: &mut [u32]) -> usize
     requires s_len_bound { length connectors.s.now < 2 ^ 32 }
-    requires marks { length marks.now ≡ length connectors.words.now }
     requires room { length connectors.words.now ≤ length paths.old }
     ensures count { result ≤ length paths.new }
     ensures paths { take result paths.new ≡ map (past connector_key connectors.entry.s.now) (chosen marks.now connectors.entry.words.now) }
@@ -45,7 +44,8 @@ fn put_paths(connectors: Connectors, marks: &[u32], paths: &mut [u32]) -> usize
     // The place of the next path: it moves on only where one is put.
     let mut count = 0;
     for (connector, mark) in connectors.words.iter().zip(marks) {
-        if *mark != 0 {
+        let is_marked = *mark != 0;
+        if is_marked {
             paths[count] = connector_key_end(connectors.s, *connector as usize) as u32;
             count += 1;
         }
@@ -73,7 +73,8 @@ pub(crate) fn external_paths<'i>(
     paths
 }
 
-// Where the type stands of the connector whose path stands at a position.
+// Where the type stands of the connector whose path stands at a position. `connector_type_at` of state_layout goes the same way from where the
+// connector starts.
 #[tactic(auto, unfolding(format::specs::Places::past))]
 pub(crate) fn type_at(s: &[u8], at: usize) -> usize
     ensures { result ≡ past (number 4) s.now (past text s.now at) }
