@@ -3,8 +3,8 @@ ghost use Rattle.std.specs.Prelude.{◌+◌, ◌*◌, ◌-◌, ◌^◌, ◌≤�
 ghost use Rattle.state_layout.specs.Tables.{Laid, Tabled, Leaves};
 
 use super::{room_start, table_in};
-use state_index::words::hints_of;
 use state_index::key_part;
+use state_index::words::hints_of;
 
 // Puts a place plus 1 into the first hint that is 0, if one is.
 fn put_hint(hints: &mut [u32], hint: u32) {
@@ -37,7 +37,12 @@ pub fn fill_hints(s: &[u8], tables: &[u32], room: &mut [u32], section: u8)
     }
     let first = room.len() - 4 * table.to;
     let last = room.len() - 4 * table.from;
-    put_all(s, section, &tables[table.from..table.to], &mut room[first..last]);
+    put_all(
+        s,
+        section,
+        &tables[table.from..table.to],
+        &mut room[first..last],
+    );
 }
 
 // The same, of an index.

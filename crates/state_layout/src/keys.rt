@@ -10,7 +10,7 @@ ghost use Rattle.state_layout.specs.Marks.{is_set};
 ghost use Rattle.state_layout.specs.Keys.{Ascends, Ascends-prop, classes_of, Met, MetNew};
 
 use super::table_in;
-use state::WireValueType;
+use state::{Section, WireValueType};
 use state_index::keys::{byte_at, count_at};
 use state_index::{Table, ahead, text_end, text_part, word_at, words};
 
@@ -24,11 +24,11 @@ pub struct Keys<'a, const SECTION: u8> {
 }
 
 // The tables in which keys are looked up.
-pub type Classes<'a> = Keys<'a, 2>;
+pub type Classes<'a> = Keys<'a, { Section::ENUMS }>;
 
-pub type Blocks<'a> = Keys<'a, 3>;
+pub type Blocks<'a> = Keys<'a, { Section::BLOCKS }>;
 
-pub type Connectors<'a> = Keys<'a, 4>;
+pub type Connectors<'a> = Keys<'a, { Section::CONNECTORS }>;
 
 // The hints of a table are four for each of its words, at the end of the room, as far from it as the words are from the start.
 fn hints_in(room: &[u32], table: Table) -> &[u32] {
@@ -92,10 +92,11 @@ impl<'a, const SECTION: u8> Keys<'a, SECTION> {
         ensures { MetNew (numbered SECTION) self.entry.s.now self.entry.words.now key.now result marks.old marks.new }
     {
         let i = self.find(key, hint)?;
-        if marks[i] != 0 {
+        let mark = &mut marks[i];
+        if *mark != 0 {
             return None;
         }
-        marks[i] = 1;
+        *mark = 1;
         Some(i)
     }
 }

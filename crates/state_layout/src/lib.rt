@@ -49,13 +49,14 @@ pub fn validate_value_enum(s: &[u8], index: &[u32], classes: Table, t: &[u8], at
     0 < ordinal && ordinal <= count_at(s, text_end(s, word_at(index, w)))
 }
 
-// From which word of the index on the entries of a section stand; those of section 13 would stand behind all others.
+// From which word of the index on the entries of a section stand; behind the last one's the room begins.
 #[tactic(auto, using(crate::proofs::Indexed::reach_start, crate::proofs::Indexed::reach_next, crate::proofs::Indexed::reach_end))]
 fn start_of(s: &[u8], index: &[u32], section: u8) -> usize
     requires laid { Laid s.now index.now }
     requires section_bound { section ≤ 13 }
     ensures { result ≡ table_start section (manifest_of s.now) }
 {
+    // As a `sum` it would be shown besides that eleven numbers of 32 bits fit, and be no plainer.
     let mut w = 12;
     for k in Section::ENUMS..section {
         w += count_at(s, word_at(index, usize::from(k) - 1));
@@ -68,7 +69,7 @@ pub fn room_start(s: &[u8], index: &[u32]) -> usize
     requires { Laid s.now index.now }
     ensures { result ≡ room_start s.now }
 {
-    start_of(s, index, 13)
+    start_of(s, index, Section::INPUT_DEFINITIONS + 1)
 }
 
 // Where the table of a section lies.
