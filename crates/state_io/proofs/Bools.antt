@@ -11,14 +11,15 @@ use Rattle.state_index.proofs.Sorting.{or_swap}
 use Rattle.questions.specs.Sets.{all, any}
 use Rattle.questions.proofs.Sets.{all_map}
 
--- a number that is there only where a test passes
-pub some_then : (b : Bool) {c n : ℕ} → cond b (Some c) None ≡ Some n → (b ≡ true) × (c ≡ n)
-some_then true e = (refl, cc)
-some_then false e = cc
+-- what is there only where a test passes
+module _ {A : Type 0} where
+  pub some_then : (b : Bool) {c n : A} → cond b (Some c) None ≡ Some n → (b ≡ true) × (c ≡ n)
+  some_then true e = (refl, cc)
+  some_then false e = cc
 
-pub none_then : (b : Bool) (c : ℕ) → cond b (Some c) None ≡ None → b ≡ false
-none_then true c e = cc
-none_then false c e = refl
+  pub none_then : (b : Bool) (c : A) → cond b (Some c) None ≡ None → b ≡ false
+  none_then true c e = cc
+  none_then false c e = refl
 
 and-swap : (p q r : Bool) → (p && (q && r)) ≡ (q && (p && r))
 and-swap true q r = refl

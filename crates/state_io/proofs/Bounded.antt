@@ -71,11 +71,9 @@ module _ (s : List ℕ) (at : ℕ) (f : El value → ℕ) {k : ℕ} (ek : k ≡ 
   unfolding value_at first
   bound-none n = rw (← ek, left_out s k (min (at + 1) (length s)) n)
 
-  pub bound-given : k ≡ 1 → {p : ℕ} → p ≡ min (at + 1) (length s) → f (value_at value s p) ≡ option
+  pub bound-given : k ≡ 1 → {p : ℕ} → p ≡ min (at + 1) (length s) → {a : ℕ} → a ≡ f (value_at value s p) → a ≡ option
   unfolding value_at given
-  bound-given e i = rw (← ek, e, ← i) (sym (first_one _))
+  bound-given e i j = j ∙ rw (← ek, e, ← i) (sym (first_one _))
 
--- the answers of a bound that may be left out, and of one that is given
-pub ruleset optional_answers = (bound-none, bound-given)
-
-pub ruleset bound_answers = (bound-unordered, bound-type, bound-fails, bound-holds)
+-- the answers of a bound that may be left out
+pub ruleset bound_answers = (bound-none, bound-given, bound-unordered, bound-type, bound-fails, bound-holds)

@@ -1,11 +1,9 @@
 -- Questions 28 to 30 of a definition: the path that was found decides, and then the bounds.
-use Prim.Native.Nat.{ℕ, ◌-◌, ◌<◌}
-use native.Mathlib.Omega.{arith}
+use Prim.Native.Nat.{ℕ, ◌<◌}
 use mathlib.Core.Path.{◌≡◌, refl, sym, ap, ◌∙◌}
 use mathlib.Core.Bool.{Bool, true, false, ◌&&◌}
 use mathlib.Core.List.{List, [], ◌∷◌, ◌++◌, map, map-append}
 use lib.ListN.{length, get_or}
-use Rattle.state.proofs.Bytes.{span-length}
 use Rattle.text.proofs.Blocks.{both, neither}
 use Rattle.format.specs.Lists.{same, is_in}
 use Rattle.format.specs.Format.{number, text}
@@ -20,15 +18,13 @@ use Rattle.questions.specs.Inputs.{same_type, bound_answer}
 use Rattle.state_index.specs.declared.SortKey.TheVariants.{Text}
 use Rattle.state_index.specs.Keys.{text_at, at_most, sort_key}
 use Rattle.state_index.specs.Sort.{Ordered}
-use Rattle.state_index.specs.Find.{key_at_most, Finds}
+use Rattle.state_index.specs.Find.{key_at_most}
+use Rattle.state_index.specs.Words.{Found}
 use Rattle.std.specs.Prelude.{Option, Some, Result, Ok, Err}
 use Rattle.state.specs.declared.Question.{Question}
 use Rattle.state.specs.Outcome.{said}
-use Rattle.state_index.specs.declared.Table.{Table}
-use Rattle.state_index.proofs.Search.{span-get}
 use Rattle.state_index.proofs.Order.{apart, is_false}
-use Rattle.state_layout.specs.Classes.{classes_at}
-use Rattle.state_io.specs.Paths.{words, type_at, definition_at, agree, all_agree, defined_among, answer_among, Sought}
+use Rattle.state_io.specs.Paths.{type_at, definition_at, agree, all_agree, defined_among, answer_among, Sought}
 use Rattle.state_io.proofs.Bools.{all-at, any_at}
 use Rattle.state_io.proofs.Types.{type-sym, type-trans}
 
@@ -78,18 +74,15 @@ pub seek-order : (s l : List ℕ) → Ordered (at_most Text s) l → Ordered (ke
 unfolding at_most sort_key numbered key_at value_at
 seek-order s l o = o
 
-module _ (s index : List ℕ) (paths : Table) (at : ℕ) where
+module _ (s paths : List ℕ) (at : ℕ) where
   -- the path that was found decides
-  pub decided : {key : List ℕ} → key ≡ text_at s at → {f : Option ℕ} → Finds (numbered 12) s index paths.from paths.to key f → Sought s index paths
-      → (w : ℕ) → f ≡ Some w → {p : ℕ} → p ≡ get_or index w 0 → {t : ℕ} → t ≡ past text s at → {u : ℕ} → u ≡ past (number 4) s (past text s p)
-      → {r : Bool} → r ≡ same_type (value_at value_type s t) (value_at value_type s u) → defined_among s (words index paths) (definition_at s at) ≡ r
+  pub decided : {key : List ℕ} → key ≡ text_at s at → {f : Option ℕ} → Found (numbered 12) s paths key f → Sought s paths
+      → (i : ℕ) → f ≡ Some i → {p : ℕ} → p ≡ get_or paths i 0 → {t : ℕ} → t ≡ past text s at → {u : ℕ} → u ≡ past (number 4) s (past text s p)
+      → {r : Bool} → r ≡ same_type (value_at value_type s t) (value_at value_type s u) → defined_among s paths (definition_at s at) ≡ r
   unfolding numbered key_at value_at input_path input_type input_rest
-  decided ek found so w e {p} ep et eu er =
-      let a = found.at w e in
-      let g : get_or (words index paths) (w - paths.from) 0 ≡ p = span-get index paths.from paths.to w a.0 a.1 ∙ sym ep in
-      let len : length (words index paths) ≡ paths.to - paths.from = span-length index paths.from paths.to so.forward so.fits in
-      let k : text_at s (get_or (words index paths) (w - paths.from) 0) ≡ text_at s at = rw (g, ep) (a.2 ∙ ek) in
-      one-decides s (definition_at s at) (words index paths) so.agrees (w - paths.from) (omega arith) k ∙ rw (g, ← eu, ← et) (sym er)
+  decided ek found so i e {p} ep et eu er =
+      let a = found.at i e in
+      one-decides s (definition_at s at) paths so.agrees i a.0 (a.1 ∙ ek) ∙ rw (← ep, ← eu, ← et) (sym er)
 
 module _ (s qs : List ℕ) (at : ℕ) (es : List (Entry enums)) where
   abbrev answer : ℕ
@@ -121,7 +114,3 @@ module _ (s qs : List ℕ) (at : ℕ) (es : List (Entry enums)) where
 
       pub maximum-answers : {v : Unit} → z ≡ Ok v → said (first (bounds b)) ≡ said answer
       maximum-answers i = sym (said-group-yes (bounds a) (bounds b) (sym ez ∙ i)) ∙ ap said bounds-answer
-
--- the answer of the definition at a position, by the words of an index
-abbrev pub answer_of : (s index : List ℕ) (classes paths : Table) → ℕ → ℕ
-answer_of s index classes paths p = answer_among s (classes_at s index classes.from classes.to) (words index paths) (definition_at s p)

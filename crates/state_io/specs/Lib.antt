@@ -1,3 +1,2 @@
 -- What the contracts of the private functions of `state_io` cite.
 pub mod Paths
-pub mod Gathers

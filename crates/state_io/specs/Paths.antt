@@ -1,18 +1,29 @@
 -- External paths by the positions at which they stand: a path is that of a connector, and the connector's type follows it.
-use Rattle.std.specs.Prelude.{Option, Some, None, ℕ, ◌+◌, ◌≤◌, ◌≡◌, List, [], ◌∷◌, ◌++◌, map, Bool, true, not, cond, ◌&&◌, ◌||◌, length, eqb}
-use Rattle.state.specs.Bytes.{span}
-use Rattle.format.specs.Lists.{same}
+use Rattle.std.specs.Prelude.{Option, Some, None, ℕ, ◌+◌, ◌≡◌, List, [], ◌∷◌, ◌++◌, map, Bool, true, not, cond, ◌&&◌, ◌||◌, length, eqb}
+use Rattle.format.specs.Lists.{same, is_in}
 use Rattle.format.specs.Format.{El, number, text}
-use Rattle.format.specs.Manifest.{value_type, value, enums, input_definitions, entry}
+use Rattle.format.specs.Keys.{connector_key}
+use Rattle.format.specs.Manifest.{value_type, value, enums, connectors, external_inputs, input_definitions, entry}
 use Rattle.format.specs.Fields.{Entry, input_path, input_type, minimum, maximum, given}
-use Rattle.format.specs.Places.{past}
+use Rattle.format.specs.Places.{past, key_at}
 use Rattle.format.specs.Values.{value_at}
-use Rattle.questions.specs.Sets.{all, any, count_different, ◌unless◌, first}
+use Rattle.questions.specs.Sets.{keep, all, any, count_different, ◌unless◌, first}
 use Rattle.questions.specs.Inputs.{same_type, bound_answer}
 use Rattle.state_index.specs.declared.SortKey.TheVariants.{Text}
 use Rattle.state_index.specs.Keys.{text_at, at_most}
 use Rattle.state_index.specs.Sort.{Ordered}
-use Rattle.state_index.specs.declared.Table.{Table}
+use Rattle.state_layout.specs.Marks.{is_set}
+use Rattle.state_layout.specs.Keys.{keys_of}
+
+-- those whose marks are set
+unfoldable pub chosen : (marks ps : List ℕ) → List ℕ
+chosen [] ps = []
+chosen (m ∷ marks) [] = []
+chosen (m ∷ marks) (p ∷ ps) = cond (is_set m) (p ∷ chosen marks ps) (chosen marks ps)
+
+-- where the paths stand of the connectors at ps that the external inputs at xs name
+unfoldable pub external_paths : (s ps xs : List ℕ) → List ℕ
+external_paths s ps xs = map (past connector_key s) (keep (λ p. is_in (key_at connectors s p) (keys_of external_inputs s xs)) ps)
 
 -- the type of the connector whose path stands at q: it follows the declaration order
 abbrev pub type_at : List ℕ → (q : ℕ) → El value_type
@@ -48,9 +59,9 @@ module _ (s : List ℕ) where
   count_runs [] = 0
   count_runs (p ∷ ps) = differ_next p ps + count_runs ps
 
-  -- of two neighbours: 1 where they are two paths, 0 where they are one; none where they are one and have two types
-  abbrev pub more_paths : (p q : ℕ) → Option ℕ
-  more_paths p q = cond (agree p q) (Some (differ_next p (q ∷ []))) None
+  -- whether two neighbours are two paths; none where they are one and have two types
+  abbrev pub another : (p q : ℕ) → Option Bool
+  another p q = cond (agree p q) (Some (not (same (text_at s p) (text_at s q)))) None
 
   -- how many paths there are, as neighbours tell; none where some have two types
   abbrev pub count_agreeing : List ℕ → Option ℕ
@@ -72,13 +83,7 @@ module _ (s : List ℕ) where
       ∷ first (map (λ p. answer_among es qs (definition_at s p)) ds)
       ∷ []
 
--- the words of the index that a table lists
-abbrev pub words : List ℕ → Table → List ℕ
-words index table = span index table.from table.to
-
--- the words have paths that stand in order, and of each path one type
-pub record Sought (s index : List ℕ) (paths : Table) : Type 0 where
-  pub forward : paths.from ≤ paths.to
-  pub fits : paths.to ≤ length index
-  pub ordered : Ordered (at_most Text s) (words index paths)
-  pub agrees : all_agree s (words index paths) ≡ true
+-- paths that stand in order, and of each path one type
+pub record Sought (s paths : List ℕ) : Type 0 where
+  pub ordered : Ordered (at_most Text s) paths
+  pub agrees : all_agree s paths ≡ true

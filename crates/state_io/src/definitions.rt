@@ -1,104 +1,78 @@
 // Questions 28 to 30, definition by definition.
-ghost use Rattle.std.specs.Prelude.{◌≡◌, map, ◌≤◌, length};
+ghost use Rattle.std.specs.Prelude.{◌≡◌, map};
 ghost use Rattle.state.specs.Outcome.{said};
-ghost use Rattle.format.specs.Manifest.{value, value_type, optional, enums};
+ghost use Rattle.format.specs.Manifest.{value_type, value, optional};
 ghost use Rattle.format.specs.Fields.{given};
 ghost use Rattle.format.specs.Values.{value_at};
 ghost use Rattle.questions.specs.Sets.{first};
 ghost use Rattle.questions.specs.Inputs.{bound_answer};
-ghost use Rattle.state_layout.specs.Classes.{classes_at};
-ghost use Rattle.state_layout.specs.Marks.{Keyed};
-ghost use Rattle.state_io.specs.Paths.{words, definition_at, answer_among, Sought};
+ghost use Rattle.state_layout.specs.Keys.{classes_of};
+ghost use Rattle.state_io.specs.Paths.{definition_at, answer_among, Sought};
 
 use super::paths::type_at;
 use state::{Question, Section, WireValueType};
 use state_index::keys::byte_at;
-use state_index::{Table, ahead, text_end, text_part, word_at};
+use state_index::words::find;
+use state_index::{ahead, text_end, text_part, word_at};
 use state_layout::ends::{bound_end, type_end};
-use state_layout::{same_type, validate_value_enum};
+use state_layout::keys::{Classes, validate_value_enum};
+use state_layout::same_type;
 
-// A value that is a bound, of the type at t: questions 29 and 30.
+// A bound that may be left out, of the type at t: questions 29 and 30.
+// Not one function with `value_answer` of state_codec: both ask for the type and the class, but of other bytes and under other numbers.
 #[tactic(auto, using(crate::proofs::Bounded::bound_answers))]
-fn value_answer(
-    s: &[u8],
-    index: &[u32],
-    classes: Table,
-    t: usize,
-    at: usize,
-) -> Result<(), Question>
-    requires { Keyed enums s.now index.now classes.from classes.to classes.to }
-    ensures { result ≡ said (bound_answer (classes_at s.now index.now classes.from classes.to) (value_at value_type s.now t) (value_at value s.now at)) }
+fn bound_answer(classes: Classes, t: usize, at: usize) -> Result<(), Question>
+    ensures { result ≡ said (first (map (bound_answer (classes_of classes.entry.s.now classes.entry.words.now) (value_at value_type classes.entry.s.now t)) (given value (value_at (optional value) classes.entry.s.now at)))) }
 {
-    match byte_at(s, at) {
-        WireValueType::BOOLEAN | WireValueType::STRING => Err(Question(29)),
-        _ if !same_type(s, at, s, t) => Err(Question(29)),
-        _ if !validate_value_enum(s, index, classes, s, at) => Err(Question(30)),
-        _ => Ok(()),
-    }
-}
-
-// The same of a bound that may be left out.
-#[tactic(auto, using(crate::proofs::Bounded::optional_answers))]
-fn bound_answer(
-    s: &[u8],
-    index: &[u32],
-    classes: Table,
-    t: usize,
-    at: usize,
-) -> Result<(), Question>
-    requires { Keyed enums s.now index.now classes.from classes.to classes.to }
-    ensures { result ≡ said (first (map (bound_answer (classes_at s.now index.now classes.from classes.to) (value_at value_type s.now t)) (given value (value_at (optional value) s.now at)))) }
-{
+    let s = classes.s;
     if byte_at(s, at) != 1 {
         return Ok(());
     }
-    value_answer(s, index, classes, t, ahead(s, at, 1))
+    let value = ahead(s, at, 1);
+    let tag = byte_at(s, value);
+    let is_unordered = tag == WireValueType::BOOLEAN || tag == WireValueType::STRING;
+    if is_unordered || !same_type(s, value, s, t) {
+        return Err(Question(29));
+    }
+    if !validate_value_enum(classes, s, value) {
+        return Err(Question(30));
+    }
+    Ok(())
 }
 
 // One definition: questions 28 to 30. The external paths are sorted.
 fn definition_answer(
-    s: &[u8],
-    index: &[u32],
-    classes: Table,
-    paths: Table,
+    classes: Classes,
+    paths: &[u32],
     at: usize,
     hint: usize,
 ) -> Result<(), Question>
-    requires keyed { Keyed enums s.now index.now classes.from classes.to classes.to }
-    requires sought { Sought s.now index.now paths }
-    ensures { result ≡ said (answer_among s.now (classes_at s.now index.now classes.from classes.to) (words index.now paths) (definition_at s.now at)) }
+    requires { Sought classes.s.now paths.now }
+    ensures { result ≡ said (answer_among classes.entry.s.now (classes_of classes.entry.s.now classes.entry.words.now) paths.now (definition_at classes.entry.s.now at)) }
 {
+    let s = classes.s;
     let key = text_part(s, at);
-    let w = paths
-        .find(s, Section::INPUT_DEFINITIONS, index, key, hint)
-        .ok_or(Question(28))?;
+    let i = find(s, Section::INPUT_DEFINITIONS, paths, &[], key, hint).ok_or(Question(28))?;
     let t = text_end(s, at);
-    if !same_type(s, t, s, type_at(s, word_at(index, w))) {
+    if !same_type(s, t, s, type_at(s, word_at(paths, i))) {
         return Err(Question(28));
     }
     let minimum = type_end(s, t);
     let maximum = bound_end(s, minimum);
-    bound_answer(s, index, classes, t, minimum)?;
-    bound_answer(s, index, classes, t, maximum)
+    bound_answer(classes, t, minimum)?;
+    bound_answer(classes, t, maximum)
 }
 
-// All definitions. One word after the other is tried first, since definitions mostly stand in the order of their paths.
-#[tactic(auto, using(crate::proofs::Firsts::firsts))]
+// All definitions. One path after the other is tried first, since definitions mostly stand in the order of their paths.
 pub(crate) fn definitions_answer(
-    s: &[u8],
-    index: &[u32],
-    classes: Table,
-    paths: Table,
-    definitions: Table,
+    classes: Classes,
+    paths: &[u32],
+    definitions: &[u32],
 ) -> Result<(), Question>
-    requires keyed { Keyed enums s.now index.now classes.from classes.to classes.to }
-    requires sought { Sought s.now index.now paths }
-    requires to_in_bounds { definitions.to ≤ length index.now }
-    ensures { result ≡ said (first (map (λ p. answer_among s.now (classes_at s.now index.now classes.from classes.to) (words index.now paths) (definition_at s.now p)) (words index.now definitions))) }
+    requires { Sought classes.s.now paths.now }
+    ensures { result ≡ said (first (map (λ p. answer_among classes.entry.s.now (classes_of classes.entry.s.now classes.entry.words.now) paths.now (definition_at classes.entry.s.now p)) definitions.now)) }
 {
-    for i in definitions.from..definitions.to {
-        let hint = paths.from + (i - definitions.from);
-        definition_answer(s, index, classes, paths, word_at(index, i), hint)?;
-    }
-    Ok(())
+    definitions.iter().enumerate().try_for_each(|(hint, at)| {
+        definition_answer(classes, paths, *at as usize, hint)
+    })
 }

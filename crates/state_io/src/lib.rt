@@ -4,31 +4,49 @@
 mod definitions;
 mod paths;
 
-ghost use Rattle.std.specs.Prelude.{◌≡◌};
+ghost use Rattle.std.specs.Prelude.{◌≡◌, ◌*◌, ◌≤◌, length};
 ghost use Rattle.state.specs.Outcome.{said};
+ghost use Rattle.format.specs.Fields.{connectors_of};
 ghost use Rattle.questions.specs.Sets.{first};
 ghost use Rattle.questions.specs.Inputs.{input_definitions_hold};
-ghost use Rattle.state_layout.specs.Tables.{Tabled, Leaves, manifest_of};
+ghost use Rattle.state_layout.specs.Tables.{Laid, Tabled, Leaves, manifest_of};
 
 use definitions::definitions_answer;
-use paths::{count_paths, gather};
+use paths::{count_paths, external_paths};
 use state::{Question, Section};
-use state_layout::table_at;
+use state_layout::keys::{Classes, Connectors, keys_of};
+use state_layout::{room_start, table_of};
+
+// Of the tables of the index: two words of room for each connector, one for its mark and one for its path.
+#[tactic(auto, using(crate::proofs::Tabled::connectors_long))]
+fn inputs_answer(s: &[u8], tables: &[u32], room: &mut [u32]) -> Result<(), Question>
+    requires laid { Laid s.now tables.now }
+    requires room { 2 * length (connectors_of (manifest_of s.now)) ≤ length room.old }
+    ensures { result ≡ said (first (input_definitions_hold (manifest_of s.now))) }
+{
+    let classes: Classes = keys_of(s, tables, &[]);
+    let definitions = table_of(s, tables, Section::INPUT_DEFINITIONS);
+    let n = table_of(s, tables, Section::CONNECTORS).len();
+    let (marks, rest) = room.split_at_mut(n);
+    let (paths, hints) = rest.split_at_mut(n);
+    let connectors: Connectors = keys_of(s, tables, hints);
+    let inputs = table_of(s, tables, Section::EXTERNAL_INPUTS);
+    let paths = external_paths(connectors, inputs, marks, paths);
+    let count = count_paths(s, paths).ok_or(Question(27))?;
+    if count != definitions.len() {
+        return Err(Question(28));
+    }
+    definitions_answer(classes, paths, definitions)
+}
 
 // Questions 27 to 30, or the first of them that says no.
+#[tactic(auto, using(state_layout::proofs::Indexed::laid_of, state_layout::proofs::Indexed::laid_front, state_layout::proofs::Indexed::leaves_split, crate::proofs::Tabled::room_there))]
 pub fn validate_inputs(s: &[u8], index: &mut [u32]) -> Result<(), Question>
     requires { Tabled s.now index.old }
     ensures value { result ≡ said (first (input_definitions_hold (manifest_of s.now))) }
     ensures leaves { Leaves s.now index.old index.new }
 {
-    let classes = table_at(s, index, Section::ENUMS);
-    let connectors = table_at(s, index, Section::CONNECTORS);
-    let inputs = table_at(s, index, Section::EXTERNAL_INPUTS);
-    let definitions = table_at(s, index, Section::INPUT_DEFINITIONS);
-    let paths = gather(s, index, connectors, inputs, definitions.to);
-    let count = count_paths(s, index, paths).ok_or(Question(27))?;
-    if count != definitions.to - definitions.from {
-        return Err(Question(28));
-    }
-    definitions_answer(s, index, classes, paths, definitions)
+    let end = room_start(s, index);
+    let (tables, room) = index.split_at_mut(end);
+    inputs_answer(s, tables, room)
 }

@@ -1,8 +1,11 @@
+use lib.ListN.{length}
 use Rattle.state_codec.proofs.Asking.{Asking}
 use Rattle.state_codec.specs.Listed.{connectors_at}
-use Rattle.state_layout.specs.Classes.{classes_at}
+use Rattle.state_layout.specs.Keys.{classes_of}
 use Rattle.tail.specs.Tail.{value_answer}
 use Rattle.state_codec.proofs.values.values_answer.Given as goal
 
-abbrev pub invariant-loop-w : goal.invariant-loop-w
-invariant-loop-w l = Asking (value_answer (classes_at l.s l.index l.fn.classes.from l.fn.classes.to) (connectors_at l.s l.index l.fn.connectors.from l.fn.connectors.to)) l.t l.fn.connectors.to l.w l.p
+abbrev pub invariant-loop-i : goal.invariant-loop-i
+invariant-loop-i l =
+    let connectors = connectors_at l.connectors.s.now l.connectors.words.now in
+    Asking (value_answer (classes_of l.classes.s.now l.classes.words.now) connectors) l.t (length l.connectors.words.now) l.i l.p

@@ -1,11 +1,17 @@
-use Rattle.state_io.proofs.Gathered.{keyed-connectors, marking-next}
+use native.Mathlib.Omega.{arith}
+use mathlib.Core.Path.{◌≡◌, refl}
+use lib.ListN.{length, replicate}
+use Rattle.std.proofs.lemmas.Grind.{common_steps}
+use Rattle.state_io.proofs.Gathered.{marking-start, marking-next}
 use Rattle.state_io.proofs.paths.mark_inputs.Goals as goal
 
-pub mark-found-requires : goal.mark-found-requires
-mark-found-requires c = keyed-connectors c.loop-i.invariant.marked.keyed
+pub loop-input-init : goal.loop-input-init
+loop-input-init c =
+    let e : c.fill.new.self ≡ replicate (length c.args.connectors.words.now) 0 = grind (arith, common_steps) in
+    marking-start _ _ c.args.inputs.now e
 
-pub loop-i-preserved-in-Some : goal.loop-i-preserved-in-Some
-loop-i-preserved-in-Some c = marking-next c.loop-i.invariant c.loop-i-test.true c.word_at.ensures c.key_part-key.ensures c.mark-found.ensures
+pub overflow_add-hint : goal.overflow_add-hint
+overflow_add-hint c = omega (arith, c.mark.ensures.found.at c.in-Some.i c.in-Some.is)
 
-pub loop-i-preserved : goal.loop-i-preserved
-loop-i-preserved c = marking-next c.loop-i.invariant c.loop-i-test.true c.word_at.ensures c.key_part-key.ensures c.mark-found.ensures
+pub loop-input-preserved : goal.loop-input-preserved
+loop-input-preserved c = marking-next _ _ _ c.loop-input.invariant c.loop-input-test.true refl c.key_part-key.ensures c.mark.ensures
