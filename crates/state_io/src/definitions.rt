@@ -52,7 +52,7 @@ fn definition_answer(
 {
     let s = classes.s;
     let key = text_part(s, at);
-    let i = find(s, Section::INPUT_DEFINITIONS, paths, &[], key, hint).ok_or(Question(28))?;
+    let i = find::<{ Section::INPUT_DEFINITIONS }>(s, paths, &[], key, hint).ok_or(Question(28))?;
     let t = text_end(s, at);
     if !same_type(s, t, s, type_at(s, word_at(paths, i))) {
         return Err(Question(28));

@@ -21,8 +21,8 @@ ghost use Rattle.state_manifest.specs.Accepted.{Accepted};
 use compare::{compare_sections, section_start};
 use manifest::decode_manifest;
 use state::{Question, Refusal, Section, SideRefusal, Units, Verdict};
-use state_index::keys::{block_key_end, count_at, number_at};
 use state_index::ahead;
+use state_index::keys::{block_key_end, count_at, number_at};
 
 // The word total of the slots whose count stands at a position: the largest end.
 pub fn state_words(s: &[u8], at: usize) -> u64
