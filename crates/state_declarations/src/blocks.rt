@@ -22,7 +22,7 @@ use state_layout::ends::{
 use state_layout::keys::{Classes, validate_value_enum};
 use state_wire::part;
 
-// Question 12 of the block at a position. Revision and state length stand behind the kind, two steps that no other crate takes.
+// Question 12 of the block at a position. Two steps lead from the kind to the revision and the state length: a function for each would be no plainer.
 #[tactic(auto, using(crate::proofs::Parts::kind_agrees, crate::proofs::Parts::kind_differs))]
 fn kind_holds(s: &[u8], at: usize) -> bool
     ensures { result ≡ kind_holds (value_at (entry block_entries) s.now at) }
