@@ -28,7 +28,7 @@ use Rattle.questions.proofs.Chains.{said-no, said-yes}
 use Rattle.questions.proofs.Accepted.{Passed, yields-passed}
 use Rattle.questions.proofs.Numbers.{late-failing}
 use Rattle.state_layout.specs.Tables.{manifest_of, counts, table_start, room_start, Tabled, Leaves}
-use Rattle.state_layout.proofs.Indexed.{starts-twelve, rows, start-le, start_there}
+use Rattle.state_layout.proofs.Indexed.{laid_of, starts-twelve, rows, start-le, start_there}
 use Rattle.state_manifest_codec.specs.Reads.{Reads}
 use Rattle.manifest.specs.Judges.{Judges}
 
@@ -105,8 +105,8 @@ located-yes n (Err q) l e = cc (sym l ∙ e)
 pub tabled-starts : {s index : List ℕ} → Tabled s index → (12 ≤ length index) × (take 12 index ≡ manifest_starts limit s)
 tabled-starts {s} {index} t =
     let f : 12 ≤ room_start s = omega (arith, (rows (manifest_of s)).first, start-le (manifest_of s) 2 (omega arith)) in (
-      omega (arith, f, start_there t 13 (omega arith)),
-      sym (take-take 12 (room_start s) index f) ∙ ap (take 12) t.words ∙ take_at (manifest_starts limit s) (manifest_entries limit s) 12 (starts-twelve t),
+      omega (arith, f, start_there (laid_of t) 13 (omega arith)),
+      sym (take-take 12 (room_start s) index f) ∙ ap (take 12) t.words ∙ take_at (manifest_starts limit s) (manifest_entries limit s) 12 (starts-twelve (laid_of t)),
     )
 
 module _ {s old new : List ℕ} (revision : ℕ) {r : Stepped} (reads : Reads s r old new) where

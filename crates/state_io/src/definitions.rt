@@ -9,12 +9,11 @@ ghost use Rattle.questions.specs.Inputs.{bound_answer};
 ghost use Rattle.state_layout.specs.Keys.{classes_of};
 ghost use Rattle.state_io.specs.Paths.{definition_at, answer_among, Sought};
 
-use super::paths::type_at;
 use state::{Question, Section, WireValueType};
 use state_index::keys::byte_at;
 use state_index::words::find;
 use state_index::{ahead, text_end, text_part, word_at};
-use state_layout::ends::{bound_end, type_end};
+use state_layout::ends::{bound_end, type_at, type_end};
 use state_layout::keys::{Classes, validate_value_enum};
 use state_layout::same_type;
 

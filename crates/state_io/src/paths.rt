@@ -16,6 +16,7 @@ use state_index::keys::connector_key_end;
 use state_index::words::sort;
 use state_index::{SortKey, ahead, key_part, text_end, text_part, word_at};
 use state_key_order::same_bytes;
+use state_layout::ends::type_at;
 use state_layout::keys::Connectors;
 use state_layout::same_type;
 
@@ -71,15 +72,6 @@ pub(crate) fn external_paths<'i>(
     let paths = &mut paths[..count];
     sort(connectors.s, SortKey::Text, paths);
     paths
-}
-
-// Where the type stands of the connector whose path stands at a position. `connector_type_at` of state_layout goes the same way from where the
-// connector starts.
-#[tactic(auto, unfolding(format::specs::Places::past))]
-pub(crate) fn type_at(s: &[u8], at: usize) -> usize
-    ensures { result ≡ past (number 4) s.now (past text s.now at) }
-{
-    ahead(s, text_end(s, at), 4)
 }
 
 // Whether the paths at a and at b are two; none where they are one path of two types.

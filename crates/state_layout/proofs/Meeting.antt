@@ -60,6 +60,7 @@ module _ (e : Section) (s words key : List ℕ) where
 
     pub unmet_new : f ≡ None → MetNew e s words key None old old
     unmet_new g = record {
+      at = λ i j. let z : ◌≡◌ {A = ℕ} 0 1 = cc in absurd (omega arith);
       long = refl;
       answer = λ seen o. rw (r.nothing g) refl;
       next = λ i j. let z : ◌≡◌ {A = ℕ} 0 1 = cc in absurd (omega arith);
@@ -67,6 +68,7 @@ module _ (e : Section) (s words key : List ℕ) where
 
     pub met_new : {i : ℕ} → f ≡ Some i → get_or old i 0 ≡ 0 → MetNew e s words key (Some i) old (set old i 1)
     met_new {i} g z = record {
+      at = λ j k. let q : i ≡ j = cc in rw (← q) (r.at i g).0;
       long = length-set old i 1;
       answer = λ seen o. let h = r.at i g in rw (there h.0 h.1) (ap not (sym (unset (is_in key seen) (sym (mark-is h.0 h.1 seen old o) ∙ z))));
       next = λ j k. set-is g;
@@ -78,6 +80,7 @@ module _ (e : Section) (s words key : List ℕ) where
 
     pub met_before : {i : ℕ} → f ≡ Some i → (get_or old i 0 ≡ 0 → ⊥) → MetNew e s words key None old old
     met_before {i} g z = record {
+      at = λ j k. let q : ◌≡◌ {A = ℕ} 0 1 = cc in absurd (omega arith);
       long = refl;
       answer = λ seen o. let h = r.at i g in sym (before (is_in key seen) (λ q. z (mark-is h.0 h.1 seen old o ∙ q)));
       next = λ j k. let q : ◌≡◌ {A = ℕ} 0 1 = cc in absurd (omega arith);

@@ -1,5 +1,5 @@
 -- The keys of a table's entries, and marks of those that were met: a word for each, beside the table's.
-use Rattle.std.specs.Prelude.{Option, Some, is_some, ℕ, ◌≡◌, true, not, ◌&&◌, List, ◌∷◌, map, length}
+use Rattle.std.specs.Prelude.{Option, Some, is_some, ℕ, ◌≡◌, true, not, ◌&&◌, List, ◌∷◌, map, length, ◌<◌}
 use Rattle.std.specs.Coded.{×_prop, Coded-set, coded_bool}
 use Rattle.format.specs.Lists.{is_in, all_different}
 use Rattle.format.specs.Manifest.{Section, entry, enums}
@@ -34,6 +34,7 @@ pub record Met (e : Section) (s words key : List ℕ) (f : Option ℕ) (old new 
 
 -- what `mark_new` does: a key that was met before is not found
 pub record MetNew (e : Section) (s words key : List ℕ) (f : Option ℕ) (old new : List ℕ) : Type 0 where
+  pub at : (i : ℕ) → f ≡ Some i → i < length words
   pub long : length new ≡ length old
   pub answer : (seen : List (List ℕ)) → old ≡ marks_of seen (keys_of e s words) → is_some f ≡ (is_in key (keys_of e s words) && not (is_in key seen))
   pub next : (i : ℕ) → f ≡ Some i → (seen : List (List ℕ)) → old ≡ marks_of seen (keys_of e s words) → new ≡ marks_of (key ∷ seen) (keys_of e s words)

@@ -119,11 +119,18 @@ pub fn parameters_at(s: &[u8], at: usize) -> usize
     ahead(s, ahead(s, ahead(s, block_kind_at(s, at), 1), 4), 8)
 }
 
+// Where the value type stands of the connector whose path stands at a position.
+pub fn type_at(s: &[u8], path: usize) -> usize
+    ensures { result ≡ past (number 4) s.now (past text s.now path) }
+{
+    ahead(s, text_end(s, path), 4)
+}
+
 // Where the value type of the connector at a position stands.
 pub fn connector_type_at(s: &[u8], at: usize) -> usize
     ensures { result ≡ past (number 4) s.now (past text s.now (past connector_key s.now at)) }
 {
-    ahead(s, text_end(s, connector_key_end(s, at)), 4)
+    type_at(s, connector_key_end(s, at))
 }
 
 // Entries of sections 2, 4 and 12.

@@ -30,7 +30,7 @@ pub(crate) fn all_new<const SECTION: u8>(
             return false;
         };
         // That a plain sum fits did not prove: `mark_new` does not say that this is a place.
-        hint = i.saturating_add(1);
+        hint = i + 1;
     }
     true
 }
