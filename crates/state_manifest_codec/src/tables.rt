@@ -1,5 +1,7 @@
 // Sections 2 to 12, each read into its table: the words of the lent index that say where its entries start.
-ghost use Rattle.std.specs.Prelude.{◌≡◌, ◌≤◌, [], ◌+◌, length};
+ghost use Rattle.std.specs.Prelude.{◌≡◌, ◌≤◌, [], ◌+◌, length, ℕ, List};
+ghost use denote.Ref.{MutBor};
+ghost use Rattle.state_manifest_codec.specs.Readers.{ReadsAs, RestAs};
 ghost use Rattle.state_wire.specs.Fields.{max_snapshot_bytes};
 ghost use Rattle.format.specs.Format.{scan, scan_entries, text, done, free, ◌then◌};
 ghost use Rattle.format.specs.Manifest.{members, block_rest, numbered, counted, entry};
@@ -22,6 +24,7 @@ fn read_names(s: &[u8], at: usize, names: &mut [u32]) -> Step
     requires here { at ≤ length s.now }
     ensures { Lists result (scan_entries max_snapshot_bytes free text done s.now (length names.old) at []) (starts max_snapshot_bytes (text then done) s.now (length names.old) at) names.new }
 {
+    // std has no `From` for this module's casts: of positions, which fit in 32 bits as a manifest has 64 MiB at most, and of counts.
     let mut p = at;
     for name in names.iter_mut() {
         let e = string(s, p)?;
@@ -58,45 +61,38 @@ fn read_block_rest(s: &[u8], at: usize) -> Step
     read_connector_keys(s, outputs)
 }
 
-// The key of an entry.
-#[tactic(auto, using(crate::proofs::Numbers::key_found), unfolding(format::specs::Manifest::numbered))]
-fn read_key(s: &[u8], section: u8, at: usize) -> Step
-    ensures { result ≡ scan max_snapshot_bytes (numbered section).key s.now at }
+// A key that is a text.
+#[tactic(auto, using(crate::proofs::Reading::reads))]
+fn path(s: &[u8], at: usize) -> Step
+    ensures { result ≡ scan max_snapshot_bytes text s.now at }
 {
-    match section {
-        Section::BLOCKS | Section::SCHEDULE | Section::STATE_SLOTS => read_block_key(s, at),
-        Section::CONNECTORS
-        | Section::CONNECTOR_ORDER
-        | Section::DRIVER_OF
-        | Section::EXTERNAL_INPUTS => read_connector_key(s, at),
-        Section::CONNECTIONS => read_connection(s, at),
-        _ => string(s, at),
-    }
+    string(s, at)
 }
 
-// The rest of an entry.
-#[tactic(auto, using(crate::proofs::Numbers::rest_found), unfolding(format::specs::Manifest::numbered))]
-fn read_rest(s: &[u8], section: u8, at: usize, scratch: &mut [u32]) -> Step
-    requires { Space s.now scratch.old at }
-    ensures { result ≡ scan max_snapshot_bytes (numbered section).rest s.now at }
+// The rest of an entry that is a key alone.
+#[tactic(auto, using(crate::proofs::Reading::reads))]
+fn nothing(_s: &[u8], at: usize) -> Step
+    ensures { result ≡ scan max_snapshot_bytes done _s.now at }
 {
-    match section {
-        ..=Section::ENUMS => read_members(s, at, scratch),
-        Section::BLOCKS => read_block_rest(s, at),
-        Section::CONNECTORS => read_connector_rest(s, at),
-        Section::DRIVER_OF | Section::BOUNDARY_OUTPUTS => read_connector_key(s, at),
-        Section::STATE_SLOTS => read_slot_rest(s, at),
-        Section::CONNECTIONS
-        | Section::SCHEDULE
-        | Section::CONNECTOR_ORDER
-        | Section::EXTERNAL_INPUTS => Ok(at),
-        _ => read_input_rest(s, at),
-    }
+    Ok(at)
 }
 
-// A section: its count, then its entries; where they start goes into the first words of the index, and those behind are scratch.
-pub fn read_list(s: &[u8], section: u8, at: usize, index: &mut [u32]) -> Step
-    requires { Space s.now index.old at }
+// A section by the readers of a key and of the rest of an entry: where the entries start goes into the first words of the index, and
+// those behind are scratch. It stands beside `read_ascending`, whose callers keep no starts and have no index: one walk for both
+// would ask at each entry whether to keep one.
+fn walk_with<K: Fn(&[u8], usize) -> Step, R: Fn(&[u8], usize, &mut [u32]) -> Step>(
+    s: &[u8],
+    section: u8,
+    at: usize,
+    read_key: K,
+    read_rest: R,
+    index: &mut [u32],
+) -> Step
+    requires key_callable { K.IsAlwaysCallable read_key }
+    requires key { ReadsAs (K.post read_key s) (numbered section).key s.now }
+    requires rest_callable { (k : ℕ) (words : MutBor (List ℕ)) → Space s.now words.now k → R.pre read_rest s k words }
+    requires rest { RestAs (R.post read_rest s) (numbered section).rest s.now }
+    requires room { Space s.now index.old at }
     ensures { Lists result (scan max_snapshot_bytes (counted (numbered section)) s.now at) (starts max_snapshot_bytes (entry (numbered section)) s.now (count_at s.now at) (at + 4)) index.new }
 {
     let layout = layout_of(section);
@@ -104,13 +100,13 @@ pub fn read_list(s: &[u8], section: u8, at: usize, index: &mut [u32]) -> Step
     let mut last = None;
     let mut p = first;
     for w in 0..n as usize {
-        let k = read_key(s, section, p)?;
+        let k = read_key(s, p)?;
         let key = part(s, p + layout.skip, k);
         let ordered = in_order(layout.asked, last, key);
         if !ordered && layout.asked == Asked::AfterKey {
             return Err(Question(9).at(k));
         }
-        let e = read_rest(s, section, k, &mut index[w..])?;
+        let e = read_rest(s, k, &mut index[w..])?;
         if !ordered {
             return Err(Question(9).at(e));
         }
@@ -119,4 +115,64 @@ pub fn read_list(s: &[u8], section: u8, at: usize, index: &mut [u32]) -> Step
         p = e;
     }
     Ok(p)
+}
+
+// The same where no rest needs scratch.
+fn walk<K: Fn(&[u8], usize) -> Step, R: Fn(&[u8], usize) -> Step>(
+    s: &[u8],
+    section: u8,
+    at: usize,
+    read_key: K,
+    read_rest: R,
+    index: &mut [u32],
+) -> Step
+    requires key_callable { K.IsAlwaysCallable read_key }
+    requires key { ReadsAs (K.post read_key s) (numbered section).key s.now }
+    requires rest_callable { R.IsAlwaysCallable read_rest }
+    requires rest { ReadsAs (R.post read_rest s) (numbered section).rest s.now }
+    requires room { Space s.now index.old at }
+    ensures { Lists result (scan max_snapshot_bytes (counted (numbered section)) s.now at) (starts max_snapshot_bytes (entry (numbered section)) s.now (count_at s.now at) (at + 4)) index.new }
+{
+    walk_with(s, section, at, read_key, |s, p, _| read_rest(s, p), index)
+}
+
+// A section, read into the first words of the index; those behind are scratch.
+#[tactic(auto, using(crate::proofs::Numbers::numbered_found), unfolding(format::specs::Manifest::numbered))]
+pub fn read_list(s: &[u8], section: u8, at: usize, index: &mut [u32]) -> Step
+    requires { Space s.now index.old at }
+    ensures { Lists result (scan max_snapshot_bytes (counted (numbered section)) s.now at) (starts max_snapshot_bytes (entry (numbered section)) s.now (count_at s.now at) (at + 4)) index.new }
+{
+    match section {
+        ..=Section::ENUMS => walk_with(s, section, at, path, read_members, index),
+        Section::BLOCKS => walk(s, section, at, read_block_key, read_block_rest, index),
+        Section::CONNECTORS => walk(
+            s,
+            section,
+            at,
+            read_connector_key,
+            read_connector_rest,
+            index,
+        ),
+        Section::CONNECTIONS => walk(s, section, at, read_connection, nothing, index),
+        Section::SCHEDULE => walk(s, section, at, read_block_key, nothing, index),
+        Section::CONNECTOR_ORDER | Section::EXTERNAL_INPUTS => walk(
+            s,
+            section,
+            at,
+            read_connector_key,
+            nothing,
+            index,
+        ),
+        Section::DRIVER_OF => walk(
+            s,
+            section,
+            at,
+            read_connector_key,
+            read_connector_key,
+            index,
+        ),
+        Section::STATE_SLOTS => walk(s, section, at, read_block_key, read_slot_rest, index),
+        Section::BOUNDARY_OUTPUTS => walk(s, section, at, path, read_connector_key, index),
+        _ => walk(s, section, at, path, read_input_rest, index),
+    }
 }
