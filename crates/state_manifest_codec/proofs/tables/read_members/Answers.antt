@@ -22,7 +22,7 @@ pub all_distinct-requires : goal.all_distinct-requires
 all_distinct-requires c = simp (length-append, length-drop) (omega (arith, members-room _ _ c.read_count.ensures c.in_ok-n.was c.requires, c.read_names.auto.names, members-taken _ _ c.read_count.ensures c.in_ok-n.was c.requires))
 
 pub returns-then-all_distinct : goal.returns-then-all_distinct
-returns-then-all_distinct c = members-different _ _ c.read_count.ensures c.in_ok-n.was c.requires _ c.read_names.ensures c.in_ok-last.was c.read_names.auto.names c.all_distinct.ensures.value c.if-all_distinct.true
+returns-then-all_distinct c = members-different _ _ c.read_count.ensures c.in_ok-n.was c.requires _ c.read_names.ensures c.in_ok-last.was c.read_names.auto.names c.all_distinct.ensures c.if-all_distinct.true
 
 pub returns-else-all_distinct : goal.returns-else-all_distinct
-returns-else-all_distinct c = ap Err c.at.ensures ∙ members-same _ _ c.read_count.ensures c.in_ok-n.was c.requires _ c.read_names.ensures c.in_ok-last.was c.read_names.auto.names c.all_distinct.ensures.value c.if-all_distinct.false
+returns-else-all_distinct c = ap Err c.at.ensures ∙ members-same _ _ c.read_count.ensures c.in_ok-n.was c.requires _ c.read_names.ensures c.in_ok-last.was c.read_names.auto.names c.all_distinct.ensures c.if-all_distinct.false
