@@ -76,14 +76,11 @@ module _ (s : List ℕ) (at : ℕ) {g : NumberRead} {n m : ℕ} (eg : g ≡ fiel
     pub members-stop : {d : Refusal ℕ} → r ≡ Err d → r ≡ scan limit members s at
     members-stop h = h ∙ sym (whole ∙ rw h)
 
-    module _ {e : ℕ} (h : r ≡ Ok e) (l : length names ≡ length (take n words)) {b : Bool} (d : b ≡ all_different (map (text_at s) (span (names ++ drop n words) 0 (0 + n)))) where
-      table : span (names ++ drop n words) 0 (0 + n) ≡ starts limit (text then done) s (length (take n words)) m
+    module _ {e : ℕ} (h : r ≡ Ok e) (l : length names ≡ length (take n words)) {b : Bool} (d : b ≡ all_different (map (text_at s) (take n (names ++ drop n words)))) where
+      table : take n (names ++ drop n words) ≡ starts limit (text then done) s (length (take n words)) m
       table =
-          ap (λ (x : ℕ). take x (names ++ drop n words)) c ∙ take_at names (drop n words) n (l ∙ members-taken) ∙ sym (take-length names)
+          take_at names (drop n words) n (l ∙ members-taken) ∙ sym (take-length names)
           ∙ ap (λ (x : ℕ). take x names) (l ∙ sym (starts-length limit (text then done) s (length (take n words)) m)) ∙ f.front e h
-        where
-          c : 0 + n - 0 ≡ n
-          c = omega arith
 
       pub members-different : b ≡ true → Ok e ≡ scan limit members s at
       members-different t = sym (whole ∙ rw (h, ← table, ← d, t))
