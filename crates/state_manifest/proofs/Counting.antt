@@ -1,7 +1,6 @@
 -- The units of an accepted manifest, counted where its starts say.
 use Prim.Native.Nat.{ℕ, ◌+◌, ◌*◌, ◌-◌, ◌^◌, ◌≤◌, ◌<◌}
 use native.Mathlib.Omega.{arith}
-use native.Mathlib.Nat.{sub-zero}
 use mathlib.Core.Path.{◌≡◌, refl, ap, ◌∙◌}
 use mathlib.Core.Bool.{true, cond}
 use mathlib.Core.List.{List, ◌++◌}
@@ -18,7 +17,6 @@ use Rattle.questions.specs.Sets.{all}
 use Rattle.questions.specs.Slots.{end_fits}
 use Rattle.questions.specs.Units.{word_total, units_of, units_answer}
 use Rattle.state_layout.specs.Tables.{manifest_of}
-use Rattle.manifest.proofs.Ending.{cleared-behind}
 use Rattle.state_manifest.specs.Accepted.{Accepted}
 use Rattle.state_manifest.proofs.Sections.{slots-there, connectors-counted}
 
@@ -40,12 +38,9 @@ module _ {s index : List ℕ} (a : Accepted s index) {p : ℕ} (slots : p ≡ ge
     unfolding units_of
     units-are = rw (words_are, connectors-counted a, count, connectors)
 
-    pub units-above : 2 ^ 64 ≤ 4 * w + c → {new : List ℕ} → new ≡ take 0 index ++ (replicate (length index - 0) 0 ++ drop (length index) index)
-        → (refuses 39 0 ≡ units_answer 0 (got (manifest_of s) 0)) × (new ≡ kept s index)
+    pub units-above : 2 ^ 64 ≤ 4 * w + c → (refuses 39 0 ≡ units_answer 0 (got (manifest_of s) 0)) × (replicate (length index) 0 ≡ kept s index)
     unfolding units_answer
-    units-above h e =
-        rw (units-are, lt-leb (4 * w + c) (2 ^ 64 - 1) (omega arith))
-        (refl, cleared-behind index 0 e ∙ ap (λ (n : ℕ). replicate n 0) (sub-zero (length index)))
+    units-above h = rw (units-are, lt-leb (4 * w + c) (2 ^ 64 - 1) (omega arith)) (refl, refl)
 
     pub units-fit : {u : ℕ} → u ≡ 4 * w + c → u < 2 ^ 64 → (Ok (record { words = w; units = u }) ≡ units_answer 0 (got (manifest_of s) 0)) × (index ≡ kept s index)
     unfolding units_answer
