@@ -1,18 +1,16 @@
 -- The words of a tail, and the flags behind them.
-use Prim.Native.Nat.{ℕ, zero, suc, ◌+◌, ◌*◌, ◌-◌, ◌≤◌, ◌<◌}
+use Prim.Native.Nat.{ℕ, zero, suc, ◌+◌, ◌*◌, ◌≤◌}
 use native.Mathlib.Omega.{arith}
 use mathlib.Core.Path.{◌≡◌, refl, sym, ap, ◌∙◌}
-use mathlib.Core.Bool.{Bool, true, false, not}
 use mathlib.Core.List.{List, []}
 use lib.ListN.{length}
 use lib.Dec.{eqb}
-use borrow.Author.Tests.{le-leb, lt-leb, leb-true, leb-false, lt-ltb, le-ltb, eq-eqb, ne_eqb}
-use Rattle.state.specs.declared.Refusal.{Refusal}
+use borrow.Author.Tests.{le-leb}
 use Rattle.std.specs.Prelude.{Ok, Err}
-use Rattle.state.specs.Outcome.{got, step_of, field_of, step_of_field, Stepped, NumberRead, refuses}
+use Rattle.state.specs.Outcome.{got, step_of, field_of, NumberRead}
 use Rattle.state.proofs.Outcome.{value-got, value-refused, step-yields, Yields, this, always, yields-bind, asked, step-ask}
 use Rattle.state_manifest_codec.proofs.Reading.{chosen, step-chosen, count_is}
-use Rattle.state_wire.specs.Fields.{read_span, read_number, read_count, max_snapshot_bytes}
+use Rattle.state_wire.specs.Fields.{read_span, read_number, read_count}
 use Rattle.format.specs.Format.{El, free, done, number, entries, read, scan, scan_entries}
 use Rattle.format.proofs.Entries.{scan-entries, forgets, counted-fits}
 use Rattle.state_layout.proofs.Tables.{limit}

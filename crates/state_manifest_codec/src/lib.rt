@@ -29,7 +29,7 @@ fn read_sections(s: &[u8], index: &mut [u32]) -> Step
     index[0] = 0;
     let mut word = 12;
     for section in Section::ENUMS..=Section::INPUT_DEFINITIONS {
-        // Positions fit in 32 bits, since a manifest has 64 MiB at most. std has no `From` for this cast, nor for those below it in turn.
+        // Positions fit in 32 bits, since a manifest has 64 MiB at most. std has no `From` for this cast, nor for the count's below.
         index[usize::from(section) - 1] = at as u32;
         let next = read_list(s, section, at, &mut index[word..])?;
         word += number_at::<4>(s, at) as usize;

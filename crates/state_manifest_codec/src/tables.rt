@@ -24,10 +24,10 @@ fn read_names(s: &[u8], at: usize, names: &mut [u32]) -> Step
     requires here { at ≤ length s.now }
     ensures { Lists result (scan_entries max_snapshot_bytes free text done s.now (length names.old) at []) (starts max_snapshot_bytes (text then done) s.now (length names.old) at) names.new }
 {
-    // std has no `From` for this module's casts: of positions, which fit in 32 bits as a manifest has 64 MiB at most, and of counts.
     let mut p = at;
     for name in names.iter_mut() {
         let e = string(s, p)?;
+        // Positions fit in 32 bits, since a manifest has 64 MiB at most; std has no `From` for the cast, here and in `walk_with`.
         *name = p as u32;
         p = e;
     }
@@ -41,6 +41,7 @@ fn read_members(s: &[u8], at: usize, scratch: &mut [u32]) -> Step
     ensures { result ≡ scan max_snapshot_bytes members s.now at }
 {
     let (n, first) = read_count(s, at, 4)?;
+    // std has no `From` between `u64` and `usize`, here and in `walk_with`.
     let count = n as usize;
     let last = read_names(s, first, &mut scratch[..count])?;
     if all_distinct(s, scratch, count) {
