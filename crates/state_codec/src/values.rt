@@ -1,6 +1,5 @@
 // The connector values of a tail: reading them, and questions 33 to 36.
 ghost use Rattle.std.specs.Prelude.{◌≡◌, map, length};
-ghost use Rattle.state.specs.Bytes.{AreBytes};
 ghost use Rattle.state.specs.Outcome.{said};
 ghost use Rattle.state_wire.specs.Fields.{max_snapshot_bytes};
 ghost use Rattle.format.specs.Format.{scan};
@@ -41,7 +40,6 @@ fn value_answer(
     hint: usize,
 ) -> Result<(), Question>
     requires listed { Listed connectors.s.now connectors.words.now }
-    requires are_bytes { AreBytes t.now }
     requires well { Well max_snapshot_bytes (entry values) t.now at }
     ensures { result ≡ said (value_answer (classes_of classes.entry.s.now classes.entry.words.now) (connectors_at connectors.entry.s.now connectors.entry.words.now) (value_at (entry values) t.now at)) }
 {
@@ -63,7 +61,6 @@ fn value_answer(
 #[tactic(auto, using(crate::proofs::Asking::asking))]
 fn values_answer(classes: Classes, connectors: Connectors, t: &[u8]) -> Result<(), Question>
     requires listed { Listed connectors.s.now connectors.words.now }
-    requires are_bytes { AreBytes t.now }
     requires well { Well max_snapshot_bytes (counted values) t.now 0 }
     requires counted { number_at 4 t.now 0 ≡ length connectors.words.now }
     ensures { result ≡ said (first (map (value_answer (classes_of classes.entry.s.now classes.entry.words.now) (connectors_at connectors.entry.s.now connectors.entry.words.now)) (value_at (counted values) t.now 0))) }
@@ -80,7 +77,6 @@ fn values_answer(classes: Classes, connectors: Connectors, t: &[u8]) -> Result<(
 #[tactic(auto, using(state_layout::proofs::Indexed::laid_of, state_layout::proofs::Indexed::laid_front, crate::proofs::Asking::counted_values))]
 pub(crate) fn validate_values(s: &[u8], index: &[u32], t: &[u8]) -> Result<(), Question>
     requires asked { Asked s.now index.now }
-    requires are_bytes { AreBytes t.now }
     requires well { Well max_snapshot_bytes (counted values) t.now 0 }
     ensures { result ≡ said (values_answer (enums_of (manifest_of s.now)) (connectors_of (manifest_of s.now)) (value_at (counted values) t.now 0)) }
 {

@@ -9,7 +9,7 @@ pub returns-in_err-words : goal.returns-in_err-words
 returns-in_err-words c = passed_on c.from_residual.ensures.1 ∙ sym c.in_err-words.was ∙ values-stop c.requires.asked _ c.read_values.ensures c.in_err-words.was
 
 pub validate_values-requires : goal.validate_values-requires
-validate_values-requires c = record { asked = c.requires.asked; are_bytes = c.requires.are_bytes; well = values-well c.requires.asked _ c.read_values.ensures c.in_ok-words.was }
+validate_values-requires c = record { asked = c.requires.asked; well = values-well c.requires.asked _ c.read_values.ensures c.in_ok-words.was }
 
 pub returns-in_err-map_err : goal.returns-in_err-map_err
 returns-in_err-map_err c =
