@@ -8,13 +8,16 @@ ghost use Rattle.format.specs.Manifest.{value, value_type, optional, portability
 ghost use Rattle.state_manifest_codec.specs.Readers.{ReadsAs};
 
 use state::{Portability, Step, WireValueType};
-use state_wire::{read_tag, string, take};
+use state_wire::{read_tag, step_of, string, take};
 
 pub fn read_value_type(s: &[u8], at: usize) -> Step
     ensures { result ≡ scan max_snapshot_bytes value_type s.now at }
 {
-    let (tag, next) = read_tag(s, at, WireValueType::KNOWN)?;
-    if tag == WireValueType::ENUM {
+    let tag = read_tag(s, at, WireValueType::KNOWN);
+    let Ok((t, next)) = tag else {
+        return step_of(tag);
+    };
+    if t == WireValueType::ENUM {
         return string(s, next);
     }
     Ok(next)
@@ -24,17 +27,23 @@ pub fn read_value_type(s: &[u8], at: usize) -> Step
 fn read_ordinal(s: &[u8], at: usize) -> Step
     ensures { result ≡ scan max_snapshot_bytes (text then number 4) s.now at }
 {
-    let ordinal = string(s, at)?;
+    let class = string(s, at);
+    let Ok(ordinal) = class else {
+        return class;
+    };
     take(s, ordinal, 4)
 }
 
 pub fn read_value(s: &[u8], at: usize) -> Step
     ensures { result ≡ scan max_snapshot_bytes value s.now at }
 {
-    let (tag, next) = read_tag(s, at, WireValueType::KNOWN)?;
-    match tag {
+    let tag = read_tag(s, at, WireValueType::KNOWN);
+    let Ok((t, next)) = tag else {
+        return step_of(tag);
+    };
+    match t {
         WireValueType::REAL | WireValueType::INTEGER => take(s, next, 8),
-        WireValueType::BOOLEAN => read_tag(s, next, 2).map(|(_, end)| end),
+        WireValueType::BOOLEAN => step_of(read_tag(s, next, 2)),
         WireValueType::STRING => string(s, next),
         _ => read_ordinal(s, next),
     }
@@ -47,7 +56,10 @@ fn read_optional<F: Fn(&[u8], usize) -> Step>(s: &[u8], at: usize, read: F) -> S
     requires reads { ReadsAs (F.post read s) fmt s.now }
     ensures { result ≡ scan max_snapshot_bytes (optional fmt) s.now at }
 {
-    let (there, next) = read_tag(s, at, 2)?;
+    let tag = read_tag(s, at, 2);
+    let Ok((there, next)) = tag else {
+        return step_of(tag);
+    };
     if there == 0 {
         return Ok(next);
     }
@@ -73,10 +85,16 @@ pub fn read_bound(s: &[u8], at: usize) -> Step
 pub fn read_portability(s: &[u8], at: usize) -> Step
     ensures { result ≡ scan max_snapshot_bytes portability s.now at }
 {
-    let (tag, next) = read_tag(s, at, Portability::KNOWN)?;
-    if tag == Portability::PORTABLE {
+    let tag = read_tag(s, at, Portability::KNOWN);
+    let Ok((t, next)) = tag else {
+        return step_of(tag);
+    };
+    if t == Portability::PORTABLE {
         return Ok(next);
     }
-    let os = string(s, next)?;
+    let arch = string(s, next);
+    let Ok(os) = arch else {
+        return arch;
+    };
     string(s, os)
 }
