@@ -5,12 +5,12 @@ use mathlib.Core.Bool.{Bool, true, false}
 use mathlib.Core.List.{List, []}
 use Rattle.std.specs.Prelude.{Ok, Err, Option, Some}
 use Rattle.state.specs.Bytes.{span}
-use Rattle.state.specs.Outcome.{Stepped, NumberRead, field_of, refuses}
+use Rattle.state.specs.Outcome.{Stepped, NumberRead, field_of, step_of_field, refuses}
 use Rattle.state.specs.declared.Refusal.{Refusal}
 use Rattle.state_wire.specs.Fields.{read_count}
 use Rattle.format.specs.Format.{Rule, free, distinct, early, late, from, above, after_key, after_entry, scan}
 use Rattle.format.specs.Manifest.{Section, counted}
-use Rattle.format.proofs.Entries.{Going, going_start, going_end, going-rest-stop, going-low, going_on}
+use Rattle.format.proofs.Entries.{Going, list-stop, going_start, going_end, going-rest-stop, going-low, going_on}
 use Rattle.state_manifest_codec.specs.declared.layouts.Asked.TheVariants.{AfterEntry}
 use Rattle.state_manifest_codec.specs.declared.layouts.Layout.{Layout}
 use Rattle.state_manifest_codec.specs.Layouts.{asked_by, layout_of}
@@ -31,6 +31,9 @@ module _ (limit : ℕ) (e : Section) {layout : Layout} (l : layout ≡ layout_of
   module _ (s : List ℕ) (at : ℕ) {g : NumberRead} (eg : g ≡ field_of (read_count 4 layout.least s at)) where
     count-read : g ≡ field_of (read_count 4 e.least s at)
     count-read = eg ∙ ap (λ (x : Layout). field_of (read_count 4 x.least s at)) l
+
+    pub ascending-stop : {x : Stepped} {d : Refusal ℕ} → g ≡ Err d → x ≡ step_of_field g → x ≡ scan limit (counted e) s at
+    ascending-stop h i = list-stop limit s at 4 e.least e.rule e.key e.rest count-read h i
 
     pub ascending-start : {n m left : ℕ} → g ≡ Ok (n, m) → n ≡ left → Going (scan limit (counted e) s at) limit e.rule e.key e.rest s left m []
     ascending-start h z = going-left (going_start limit s at 4 e.least e.rule e.key e.rest count-read h) z

@@ -35,8 +35,8 @@ module _ (limit n : ℕ) {layout : Layout} (s : List ℕ) (at : ℕ) (l : layout
   count-read : g ≡ field_of (read_count 4 (numbered n).least s at)
   count-read = e ∙ ap (λ (x : Layout). field_of (read_count 4 x.least s at)) l
 
-  pub walk-stop : {x : Stepped} {ps words : List ℕ} {d : Refusal ℕ} → g ≡ Err d → x ≡ Err d → Lists x (scan limit (counted (numbered n)) s at) ps words
-  walk-stop h i = lists-stop (list-stop limit s at 4 (numbered n).least (numbered n).rule (numbered n).key (numbered n).rest count-read h (i ∙ ap step_of_field (sym h))) i
+  pub walk-stop : {x : Stepped} {ps words : List ℕ} {d : Refusal ℕ} → g ≡ Err d → x ≡ step_of_field g → Lists x (scan limit (counted (numbered n)) s at) ps words
+  walk-stop h i = lists-stop (list-stop limit s at 4 (numbered n).least (numbered n).rule (numbered n).key (numbered n).rest count-read h i) (i ∙ ap step_of_field h)
 
   pub walk_start : {words : List ℕ} → {c m left : ℕ} → g ≡ Ok (c, m) → c ≡ left → Walking limit n layout s at left m None 0 words
   walk_start {words} {c} {m} h z =

@@ -25,13 +25,20 @@ fn read_sections(s: &[u8], index: &mut [u32]) -> Step
     requires { Room s.now index.old 0 12 }
     ensures { Fills result (scan max_snapshot_bytes manifest s.now 0) (manifest_starts max_snapshot_bytes s.now ++ manifest_entries max_snapshot_bytes s.now) 0 index.old index.new }
 {
-    let mut at = read_portability(s, 0)?;
+    let first = read_portability(s, 0);
+    let Ok(p) = first else {
+        return first;
+    };
     index[0] = 0;
+    let mut at = p;
     let mut word = 12;
     for section in Section::ENUMS..=Section::INPUT_DEFINITIONS {
         // Positions fit in 32 bits, since a manifest has 64 MiB at most. std has no `From` for this cast, nor for the count's below.
         index[usize::from(section) - 1] = at as u32;
-        let next = read_list(s, section, at, &mut index[word..])?;
+        let list = read_list(s, section, at, &mut index[word..]);
+        let Ok(next) = list else {
+            return list;
+        };
         word += number_at::<4>(s, at) as usize;
         at = next;
     }
@@ -49,7 +56,10 @@ pub fn read_manifest(s: &[u8], index: &mut [u32]) -> Step
     if index.len() < words {
         return Err(Question(2).at(0));
     }
-    let end = read_sections(s, &mut index[..words])?;
+    let sections = read_sections(s, &mut index[..words]);
+    let Ok(end) = sections else {
+        return sections;
+    };
     if end == s.len() {
         Ok(end)
     } else {

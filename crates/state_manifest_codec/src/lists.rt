@@ -14,13 +14,16 @@ use crate::layouts::Asked;
 use crate::values::read_value;
 use state::{Field, Question, Step};
 use state_key_order::{precedes, read_connector_key};
-use state_wire::{bounded_count, part, read_number, string};
+use state_wire::{bounded_count, part, read_number, step_of, string};
 
 // A count whose entries have at least so many bytes each.
 pub fn read_count(s: &[u8], at: usize, least: u64) -> Field
     ensures { result ≡ field_of (read_count 4 least s.now at) }
 {
-    let (n, next) = read_number::<4>(s, at)?;
+    let count = read_number::<4>(s, at);
+    let Ok((n, next)) = count else {
+        return count;
+    };
     bounded_count(s, next, n, least)
 }
 
@@ -56,17 +59,26 @@ pub fn read_ascending<K: Fn(&[u8], usize) -> Step, R: Fn(&[u8], usize) -> Step>(
     requires rest { ReadsAs (R.post read_rest s) e.rest s.now }
     ensures { result ≡ scan max_snapshot_bytes (counted e) s.now at }
 {
-    let (n, first) = read_count(s, at, least)?;
+    let count = read_count(s, at, least);
+    let Ok((n, first)) = count else {
+        return step_of(count);
+    };
     let mut last = None;
     let mut p = first;
     for _ in 0..n {
-        let k = read_key(s, p)?;
-        let e = read_rest(s, k)?;
-        let key = part(s, p + skip, k);
-        if !key_above(last, key) {
+        let key = read_key(s, p);
+        let Ok(k) = key else {
+            return key;
+        };
+        let rest = read_rest(s, k);
+        let Ok(e) = rest else {
+            return rest;
+        };
+        let ranked = part(s, p + skip, k);
+        if !key_above(last, ranked) {
             return Err(Question(9).at(e));
         }
-        last = Some(key);
+        last = Some(ranked);
         p = e;
     }
     Ok(p)
@@ -85,6 +97,9 @@ pub fn read_parameters(s: &[u8], at: usize) -> Step
 pub fn read_connector_keys(s: &[u8], at: usize) -> Step
     ensures { result ≡ scan max_snapshot_bytes connector_keys s.now at }
 {
-    let (n, first) = read_count(s, at, 10)?;
+    let count = read_count(s, at, 10);
+    let Ok((n, first)) = count else {
+        return step_of(count);
+    };
     (0..n).try_fold(first, |p, _| read_connector_key(s, p))
 }

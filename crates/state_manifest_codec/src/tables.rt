@@ -16,7 +16,7 @@ use crate::lists::{in_order, read_connector_keys, read_count, read_parameters};
 use state::{Question, Section, Step};
 use state_index::words::all_distinct;
 use state_key_order::{read_block_key, read_connector_key};
-use state_wire::{part, string};
+use state_wire::{part, step_of, string};
 
 // The texts of a class's members, as many as `names` has words for where they start.
 fn read_names(s: &[u8], at: usize, names: &mut [u32]) -> Step
@@ -25,10 +25,13 @@ fn read_names(s: &[u8], at: usize, names: &mut [u32]) -> Step
     ensures { Lists result (scan_entries max_snapshot_bytes free text done s.now (length names.old) at []) (starts max_snapshot_bytes (text then done) s.now (length names.old) at) names.new }
 {
     let mut p = at;
-    for name in names.iter_mut() {
-        let e = string(s, p)?;
+    for word in names.iter_mut() {
+        let name = string(s, p);
+        let Ok(e) = name else {
+            return name;
+        };
         // Positions fit in 32 bits, since a manifest has 64 MiB at most; std has no `From` for the cast, here and in `walk_with`.
-        *name = p as u32;
+        *word = p as u32;
         p = e;
     }
     Ok(p)
@@ -40,11 +43,17 @@ fn read_members(s: &[u8], at: usize, scratch: &mut [u32]) -> Step
     requires { Space s.now scratch.old at }
     ensures { result ≡ scan max_snapshot_bytes members s.now at }
 {
-    let (n, first) = read_count(s, at, 4)?;
+    let count = read_count(s, at, 4);
+    let Ok((n, first)) = count else {
+        return step_of(count);
+    };
     // std has no `From` between `u64` and `usize`, here and in `walk_with`.
-    let count = n as usize;
-    let last = read_names(s, first, &mut scratch[..count])?;
-    if all_distinct(s, scratch, count) {
+    let words = n as usize;
+    let names = read_names(s, first, &mut scratch[..words]);
+    let Ok(last) = names else {
+        return names;
+    };
+    if all_distinct(s, scratch, words) {
         Ok(last)
     } else {
         Err(Question(8).at(last))
@@ -56,10 +65,19 @@ fn read_members(s: &[u8], at: usize, scratch: &mut [u32]) -> Step
 fn read_block_rest(s: &[u8], at: usize) -> Step
     ensures { result ≡ scan max_snapshot_bytes block_rest s.now at }
 {
-    let params = read_block_head(s, at)?;
-    let inputs = read_parameters(s, params)?;
-    let outputs = read_connector_keys(s, inputs)?;
-    read_connector_keys(s, outputs)
+    let head = read_block_head(s, at);
+    let Ok(p) = head else {
+        return head;
+    };
+    let params = read_parameters(s, p);
+    let Ok(i) = params else {
+        return params;
+    };
+    let inputs = read_connector_keys(s, i);
+    let Ok(o) = inputs else {
+        return inputs;
+    };
+    read_connector_keys(s, o)
 }
 
 // A key that is a text.
@@ -97,21 +115,30 @@ fn walk_with<K: Fn(&[u8], usize) -> Step, R: Fn(&[u8], usize, &mut [u32]) -> Ste
     ensures { Lists result (scan max_snapshot_bytes (counted (numbered section)) s.now at) (starts max_snapshot_bytes (entry (numbered section)) s.now (count_at s.now at) (at + 4)) index.new }
 {
     let layout = layout_of(section);
-    let (n, first) = read_count(s, at, layout.least)?;
+    let count = read_count(s, at, layout.least);
+    let Ok((n, first)) = count else {
+        return step_of(count);
+    };
     let mut last = None;
     let mut p = first;
     for w in 0..n as usize {
-        let k = read_key(s, p)?;
-        let key = part(s, p + layout.skip, k);
-        let ordered = in_order(layout.asked, last, key);
+        let key = read_key(s, p);
+        let Ok(k) = key else {
+            return key;
+        };
+        let ranked = part(s, p + layout.skip, k);
+        let ordered = in_order(layout.asked, last, ranked);
         if !ordered && layout.asked == Asked::AfterKey {
             return Err(Question(9).at(k));
         }
-        let e = read_rest(s, k, &mut index[w..])?;
+        let rest = read_rest(s, k, &mut index[w..]);
+        let Ok(e) = rest else {
+            return rest;
+        };
         if !ordered {
             return Err(Question(9).at(e));
         }
-        last = Some(key);
+        last = Some(ranked);
         index[w] = p as u32;
         p = e;
     }

@@ -1,5 +1,4 @@
 use native.Mathlib.Omega.{arith}
-use Rattle.state_manifest_codec.proofs.Reading.{passed_on}
 use Rattle.state_manifest_codec.proofs.Whole.{too_long, too_few, sections-stop, all_read, left_over}
 use Rattle.state_manifest_codec.proofs.read_manifest.Goals as goal
 
@@ -9,11 +8,11 @@ returns-then-s-gt-MAX_SNAPSHOT_BYTES c = rw c.at.ensures (too_long _ _ c.if-s-gt
 pub returns-then-index-words : goal.returns-then-index-words
 returns-then-index-words c = rw c.at-then-index-words.ensures (too_few _ _ c.if-s-gt-MAX_SNAPSHOT_BYTES.false c.if-index-words.true)
 
-pub returns-in_err-end : goal.returns-in_err-end
-returns-in_err-end c = rw (passed_on c.from_residual.ensures.1, ← c.in_err-end.was) (sections-stop _ _ c.if-s-gt-MAX_SNAPSHOT_BYTES.false c.if-index-words.false c.read_sections.ensures c.in_err-end.was)
+pub returns-in_default : goal.returns-in_default
+returns-in_default c = sections-stop _ _ c.if-s-gt-MAX_SNAPSHOT_BYTES.false c.if-index-words.false c.read_sections-sections.ensures c.in_default.is
 
 pub returns-then-end-s : goal.returns-then-end-s
-returns-then-end-s c = all_read _ _ c.if-s-gt-MAX_SNAPSHOT_BYTES.false c.if-index-words.false c.read_sections.ensures c.in_ok-end.was (omega arith)
+returns-then-end-s c = all_read _ _ c.if-s-gt-MAX_SNAPSHOT_BYTES.false c.if-index-words.false c.read_sections-sections.ensures c.in-Ok.is (omega arith)
 
 pub returns-else-end-s : goal.returns-else-end-s
-returns-else-end-s c = rw c.at-else-end-s.ensures (left_over _ _ c.if-s-gt-MAX_SNAPSHOT_BYTES.false c.if-index-words.false c.read_sections.ensures c.in_ok-end.was (λ h. omega arith))
+returns-else-end-s c = rw c.at-else-end-s.ensures (left_over _ _ c.if-s-gt-MAX_SNAPSHOT_BYTES.false c.if-index-words.false c.read_sections-sections.ensures c.in-Ok.is (λ h. omega arith))
