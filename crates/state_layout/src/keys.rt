@@ -15,7 +15,7 @@ use state::{Section, WireValueType};
 use state_index::keys::{byte_at, count_at};
 use state_index::{ahead, text_end, text_part, word_at, words};
 
-// The words that say where a section's entries start, whose keys ascend, and hints of the places of keys: a place plus 1, or 0.
+// The words that say where a section's entries start, whose keys ascend, and hints of the places of keys: a place plus 1, or 0, as the lent index has words alone.
 #[derive(Clone, Copy)]
 pub struct Keys<'a, const SECTION: u8> {
     pub s: &'a [u8],
@@ -60,7 +60,7 @@ impl<'a, const SECTION: u8> Keys<'a, SECTION> {
         words::find::<SECTION>(self.s, self.words, self.hints, key, hint)
     }
 
-    // Finds a key and sets its mark.
+    // Finds a key and sets its mark. Marks are words of the lent index: there is no other memory.
     #[tactic(auto, using(crate::proofs::Meeting::unmet))]
     pub fn mark(self, marks: &mut [u32], key: &[u8], hint: usize) -> Option<usize>
         requires { length marks.old ≡ length self.words.now }
