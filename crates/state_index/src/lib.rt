@@ -17,7 +17,7 @@ use keys::{block_key_end, connector_key_end, count_at};
 use state::Section;
 use state_wire::{part, remaining};
 
-// What positions are sorted by.
+// What positions are sorted by. Two kinds, so that the sort and its law are one.
 #[derive(Clone, Copy, PartialEq, Eq)]
 pub enum SortKey {
     // The text of the string there.
@@ -68,7 +68,7 @@ pub fn key_end(s: &[u8], section: u8, at: usize) -> usize
     }
 }
 
-// The bytes that this key is ranked by. The section is a number, as some callers have no constant (`fill_hints` of state_layout); inlined, since
+// The bytes that this key is ranked by. The section is a number, which serves callers with a constant and without one; inlined, since
 // else a look-up among connectors, whose section is a constant, makes the match at each turn.
 #[inline]
 pub fn key_part(s: &[u8], section: u8, at: usize) -> &[u8]

@@ -49,6 +49,7 @@ module _ (e : Section) (s words key : List ℕ) where
       found = rw (← g) r;
       long = length-set old i 1;
       marks = set-is g;
+      same = λ j. let z : ◌≡◌ {A = ℕ} 0 1 = cc in absurd (omega arith);
     }
 
     pub unmet : f ≡ None → Met e s words key None old old
@@ -56,6 +57,7 @@ module _ (e : Section) (s words key : List ℕ) where
       found = rw (← g) r;
       long = refl;
       marks = λ seen o. o ∙ marks-other seen keys key (r.nothing g);
+      same = λ j. refl;
     }
 
     pub unmet_new : f ≡ None → MetNew e s words key None old old

@@ -1,5 +1,5 @@
 -- The keys of a table's entries, and marks of those that were met: a word for each, beside the table's.
-use Rattle.std.specs.Prelude.{Option, Some, is_some, ℕ, ◌≡◌, true, not, ◌&&◌, List, ◌∷◌, map, length, ◌<◌}
+use Rattle.std.specs.Prelude.{Option, Some, None, is_some, ℕ, ◌≡◌, true, not, ◌&&◌, List, ◌∷◌, map, length, ◌<◌}
 use Rattle.std.specs.Coded.{×_prop, Coded-set, coded_bool}
 use Rattle.format.specs.Lists.{is_in, all_different}
 use Rattle.format.specs.Manifest.{Section, entry, enums}
@@ -26,11 +26,12 @@ Ascends-prop e s words = ×_prop (Ordered-prop (key_at_most e s) words) (Coded-s
 abbrev pub classes_of : (s words : List ℕ) → List (Entry enums)
 classes_of s words = map (value_at (entry enums) s) words
 
--- what `mark` does of a key: it is found or not, and its mark is set where it is
+-- what `mark` does of a key: it is found or not, and its mark is set where it is; no mark changes where it is not
 pub record Met (e : Section) (s words key : List ℕ) (f : Option ℕ) (old new : List ℕ) : Type 0 where
   pub found : Found e s words key f
   pub long : length new ≡ length old
   pub marks : (seen : List (List ℕ)) → old ≡ marks_of seen (keys_of e s words) → new ≡ marks_of (key ∷ seen) (keys_of e s words)
+  pub same : f ≡ None → new ≡ old
 
 -- what `mark_new` does: a key that was met before is not found
 pub record MetNew (e : Section) (s words key : List ℕ) (f : Option ℕ) (old new : List ℕ) : Type 0 where

@@ -1,10 +1,14 @@
 // Fills the hints of a table, with which `find` begins: words at the end of the room, behind all tables.
-ghost use Rattle.std.specs.Prelude.{◌-◌, ◌^◌, ◌≤◌, ◌<◌, length};
+ghost use Rattle.std.specs.Prelude.{◌≡◌, IfSome, ◌+◌, ◌*◌, ◌-◌, ◌^◌, ◌≤◌, ◌<◌, length};
 ghost use Rattle.state_layout.specs.Tables.{Laid};
 
 use super::range_of;
 use state_index::key_part;
 use state_index::words::hints_of;
+use std::ops::Range;
+
+// How many hints there are for each word of a table.
+const HINTS: usize = 4;
 
 // Puts a place plus 1 into the first hint that is 0, if one is.
 fn put_hint(hints: &mut [u32], hint: u32) {
@@ -25,17 +29,29 @@ fn put_all(s: &[u8], section: u8, words: &[u32], hints: &mut [u32])
     }
 }
 
-// Fills the hints of a section's table of eight words or more, four for each, if the room has so many.
+// Where the hints of a table stand in a room: at its end, as far from it as the table is from the start, `HINTS` for each word. None where the
+// room has not so many.
+pub(crate) fn hints_range(room: usize, table: &Range<usize>) -> Option<Range<usize>>
+    requires { table.now.start ≤ table.now.end }
+    ensures { IfSome result (λ r. (r.start + 4 * (table.now.end - table.now.start) ≡ r.end) × (r.end ≤ room)) }
+{
+    if room / HINTS < table.end {
+        return None;
+    }
+    Some(room - HINTS * table.end..room - HINTS * table.start)
+}
+
+// Fills the hints of a section's table of eight words or more, if the room has so many.
 #[tactic(auto, using(crate::proofs::Hinting::table_fits))]
 pub fn fill_hints(s: &[u8], tables: &[u32], room: &mut [u32], section: u8)
     requires laid { Laid s.now tables.now }
     requires section_bound { section ≤ 12 }
 {
     let table = range_of(s, tables, section);
-    if table.end - table.start < 8 || room.len() / 4 < table.end {
+    if table.end - table.start < 8 {
         return;
     }
-    let first = room.len() - 4 * table.end;
-    let last = room.len() - 4 * table.start;
-    put_all(s, section, &tables[table], &mut room[first..last]);
+    if let Some(hints) = hints_range(room.len(), &table) {
+        put_all(s, section, &tables[table], &mut room[hints]);
+    }
 }

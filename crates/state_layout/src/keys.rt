@@ -9,13 +9,13 @@ ghost use Rattle.state_layout.specs.Tables.{Laid, table_of};
 ghost use Rattle.state_layout.specs.Marks.{is_set};
 ghost use Rattle.state_layout.specs.Keys.{Ascends, Ascends-prop, classes_of, Met, MetNew};
 
+use super::hints::hints_range;
 use super::range_of;
 use state::{Section, WireValueType};
 use state_index::keys::{byte_at, count_at};
 use state_index::{ahead, text_end, text_part, word_at, words};
-use std::ops::Range;
 
-// The words that say where a section's entries start, whose keys ascend, and hints of the places of keys: a place plus 1, or 0.
+// The words that say where a section's entries start, whose keys ascend, and hints of the places of keys: a place plus 1, or 0, as the lent index has words alone.
 #[derive(Clone, Copy)]
 pub struct Keys<'a, const SECTION: u8> {
     pub s: &'a [u8],
@@ -27,18 +27,7 @@ pub struct Keys<'a, const SECTION: u8> {
 // The tables in which keys are looked up.
 pub type Classes<'a> = Keys<'a, { Section::ENUMS }>;
 
-pub type Blocks<'a> = Keys<'a, { Section::BLOCKS }>;
-
 pub type Connectors<'a> = Keys<'a, { Section::CONNECTORS }>;
-
-// The hints of a table are four for each of its words, at the end of the room, as far from it as the words are from the start.
-fn hints_in<'r>(room: &'r [u32], table: &Range<usize>) -> &'r [u32] {
-    if table.end <= room.len() / 4 && table.start <= table.end {
-        &room[room.len() - 4 * table.end..room.len() - 4 * table.start]
-    } else {
-        &[]
-    }
-}
 
 // A section whose keys ascend, with the hints that may stand at the end of the room.
 #[tactic(auto, using(crate::proofs::Names::laid_ascends, crate::proofs::Indexed::start_there, crate::proofs::Indexed::start_next))]
@@ -52,7 +41,10 @@ pub fn keys_of<'a, const SECTION: u8>(
     ensures { (result.s.now ≡ s.now) × (result.words.now ≡ table_of SECTION s.now tables.now) }
 {
     let table = range_of(s, tables, SECTION);
-    let hints = hints_in(room, &table);
+    let hints = match hints_range(room.len(), &table) {
+        Some(hints) => &room[hints],
+        None => &[],
+    };
     Keys {
         s,
         words: &tables[table],
@@ -68,14 +60,7 @@ impl<'a, const SECTION: u8> Keys<'a, SECTION> {
         words::find::<SECTION>(self.s, self.words, self.hints, key, hint)
     }
 
-    // The same without one.
-    pub fn search(self, key: &[u8]) -> Option<usize>
-        ensures { Found (numbered SECTION) self.entry.s.now self.entry.words.now key.now result }
-    {
-        words::search::<SECTION>(self.s, self.words, self.hints, key)
-    }
-
-    // Finds a key and sets its mark.
+    // Finds a key and sets its mark. Marks are words of the lent index: there is no other memory.
     #[tactic(auto, using(crate::proofs::Meeting::unmet))]
     pub fn mark(self, marks: &mut [u32], key: &[u8], hint: usize) -> Option<usize>
         requires { length marks.old ≡ length self.words.now }

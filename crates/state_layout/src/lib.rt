@@ -35,7 +35,7 @@ fn start_of(s: &[u8], index: &[u32], section: u8) -> usize
     requires section_bound { section ≤ 13 }
     ensures { result ≡ table_start section (manifest_of s.now) }
 {
-    // As a `sum` it would be shown besides that eleven numbers of 32 bits fit, and be no plainer.
+    // As a `sum` it would have to be shown besides that eleven numbers of 32 bits fit, and be no plainer.
     let mut w = 12;
     for k in Section::ENUMS..section {
         w += count_at(s, word_at(index, usize::from(k) - 1));
@@ -43,7 +43,7 @@ fn start_of(s: &[u8], index: &[u32], section: u8) -> usize
     w
 }
 
-// Where the room behind all tables begins.
+// Where the room behind all tables begins. One past the last section: its table would begin where the room does.
 pub fn room_start(s: &[u8], index: &[u32]) -> usize
     requires { Laid s.now index.now }
     ensures { result ≡ room_start s.now }
