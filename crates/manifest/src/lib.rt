@@ -62,7 +62,10 @@ pub fn accepted(index: &mut [u32]) -> Starts
 pub fn judge(s: &[u8], revision: u32, index: &mut [u32]) -> Step
     ensures { Judges s.now revision result index.old index.new }
 {
-    let end = read_manifest(s, index)?;
+    let read = read_manifest(s, index);
+    let Ok(end) = read else {
+        return read;
+    };
     validate_manifest(s, revision, index).map_err(|question| question.at(end))?;
     Ok(end)
 }

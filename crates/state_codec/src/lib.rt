@@ -17,7 +17,7 @@ use manifest::{accepted, judge, refused};
 use state::{Decoded, MAX_SNAPSHOT_BYTES, Question, Section, Step};
 use state_index::word_at;
 use state_manifest::state_words;
-use state_wire::{bounded_count, offset, read_number};
+use state_wire::{bounded_count, offset, read_number, step_of};
 use values::{read_values, validate_values};
 
 // The word count and the words, and question 37. The words are passed over: the count was held against what is left.
@@ -25,8 +25,14 @@ use values::{read_values, validate_values};
 fn read_words(t: &[u8], at: usize, total: u64) -> Step
     ensures { result ≡ step_of (read_words total t.now at) }
 {
-    let (n, next) = read_number::<8>(t, at)?;
-    let (words, first) = bounded_count(t, next, n, 8)?;
+    let number = read_number::<8>(t, at);
+    let Ok((n, next)) = number else {
+        return step_of(number);
+    };
+    let count = bounded_count(t, next, n, 8);
+    let Ok((words, first)) = count else {
+        return step_of(count);
+    };
     if words != total {
         return Err(Question(37).at(at));
     }
@@ -39,8 +45,11 @@ fn read_words(t: &[u8], at: usize, total: u64) -> Step
 fn read_flags(t: &[u8], at: usize) -> Step
     ensures { result ≡ step_of (read_flags t.now at) }
 {
-    let (flags, next) = read_number::<4>(t, at)?;
-    if flags != 0 {
+    let flags = read_number::<4>(t, at);
+    let Ok((f, next)) = flags else {
+        return step_of(flags);
+    };
+    if f != 0 {
         return Err(Question(38).at(at));
     }
     if next == t.len() {
@@ -53,14 +62,19 @@ fn read_flags(t: &[u8], at: usize) -> Step
 // The tail of an accepted manifest, whose tables stand in the index.
 fn read_tail(s: &[u8], index: &[u32], t: &[u8]) -> Step
     requires asked { Asked s.now index.now }
-    requires are_bytes { AreBytes t.now }
     ensures { result ≡ step_of (read_tail (manifest_of s.now) t.now) }
 {
-    let words = read_values(t)?;
-    validate_values(s, index, t).map_err(|question| question.at(words))?;
+    let values = read_values(t);
+    let Ok(p) = values else {
+        return values;
+    };
+    validate_values(s, index, t).map_err(|question| question.at(p))?;
     let slots = word_at(index, usize::from(Section::STATE_SLOTS) - 1);
-    let flags = read_words(t, words, state_words(s, slots))?;
-    read_flags(t, flags)
+    let words = read_words(t, p, state_words(s, slots));
+    let Ok(q) = words else {
+        return words;
+    };
+    read_flags(t, q)
 }
 
 // Question 1 of a manifest and its tail.

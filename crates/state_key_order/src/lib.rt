@@ -10,7 +10,7 @@ ghost use Rattle.state_key_order.specs.Compare.{block_keys_compared, connector_k
 
 use order::Compared;
 use state::{BlockKey, Refusal, Step, WireDir};
-use state_wire::{part, read_tag, string, take};
+use state_wire::{part, read_tag, step_of, string, take};
 
 // Which of two keys is no whole one, with question and position. Beside `SideRefusal` of state: each names its two sides in its own words.
 #[derive(Clone, Copy, PartialEq, Eq)]
@@ -40,12 +40,18 @@ pub fn same_bytes(left: &[u8], right: &[u8]) -> bool
 pub fn read_block_key(s: &[u8], at: usize) -> Step
     ensures { result ≡ scan max_snapshot_bytes block_key s.now at }
 {
-    let (tag, first) = read_tag(s, at, BlockKey::KNOWN)?;
-    let second = string(s, first)?;
-    let authored = tag == BlockKey::AUTHORED;
+    let tag = read_tag(s, at, BlockKey::KNOWN);
+    let Ok((t, first)) = tag else {
+        return step_of(tag);
+    };
+    let name = string(s, first);
+    let authored = t == BlockKey::AUTHORED;
     if authored {
-        return Ok(second);
+        return name;
     }
+    let Ok(second) = name else {
+        return name;
+    };
     string(s, second)
 }
 
@@ -53,8 +59,14 @@ pub fn read_block_key(s: &[u8], at: usize) -> Step
 pub fn read_connector_key(s: &[u8], at: usize) -> Step
     ensures { result ≡ scan max_snapshot_bytes connector_key s.now at }
 {
-    let direction = read_block_key(s, at)?;
-    let (_, port) = read_tag(s, direction, WireDir::KNOWN)?;
+    let owner = read_block_key(s, at);
+    let Ok(direction) = owner else {
+        return owner;
+    };
+    let tag = step_of(read_tag(s, direction, WireDir::KNOWN));
+    let Ok(port) = tag else {
+        return tag;
+    };
     take(s, port, 4)
 }
 

@@ -24,9 +24,9 @@ pub type StringRead = Result<Range<usize>, Refusal<u64>>;
 pub fn string_at(s: &[u8], at: usize, base: u64, limit: usize) -> StringRead
     ensures { result ≡ string_read base at (read_text limit s.now at) }
 {
-    let read = state_wire::string_bounded(s, at, limit);
-    let next = read.map_err(|r| r.question.at(state_wire::offset(base, r.at)))?;
-    Ok(at + 4..next)
+    state_wire::string_bounded(s, at, limit)
+        .map(|next| at + 4..next)
+        .map_err(|r| r.question.at(state_wire::offset(base, r.at)))
 }
 
 // Where reading goes on after a number: a refused one leaves the place.

@@ -58,8 +58,10 @@ pub fn read_number<const W: usize>(s: &[u8], at: usize) -> Field
     requires width { W ≤ 8 }
     ensures { result ≡ field_of (read_number W s.now at) }
 {
-    let next = take(s, at, W)?;
-    Ok((number_at::<W>(s, at), next))
+    match take(s, at, W) {
+        Ok(next) => Ok((number_at::<W>(s, at), next)),
+        Err(refusal) => Err(refusal),
+    }
 }
 
 // A tag: a byte below `known`. Question 6 asks no more of it than that: which tags there are is the caller's to say.
@@ -67,12 +69,16 @@ pub fn read_number<const W: usize>(s: &[u8], at: usize) -> Field
 pub fn read_tag(s: &[u8], at: usize, known: u8) -> Result<(u8, usize), Refusal<usize>>
     ensures { result ≡ field_of (read_tag known s.now at) }
 {
-    let next = take(s, at, 1)?;
-    let tag = s[at];
-    if tag < known {
-        Ok((tag, next))
-    } else {
-        Err(Question(6).at(next))
+    match take(s, at, 1) {
+        Ok(next) => {
+            let tag = s[at];
+            if tag < known {
+                Ok((tag, next))
+            } else {
+                Err(Question(6).at(next))
+            }
+        }
+        Err(refusal) => Err(refusal),
     }
 }
 
@@ -98,12 +104,18 @@ pub fn step_of<N: Drop>(f: Result<(N, usize), Refusal<usize>>) -> Step
 pub fn string_bounded(s: &[u8], at: usize, limit: usize) -> Step
     ensures { result ≡ step_of (read_text limit s.now at) }
 {
-    let (n, start) = read_number::<4>(s, at)?;
+    let length = read_number::<4>(s, at);
+    let Ok((n, start)) = length else {
+        return step_of(length);
+    };
     let size = n as usize;
     if limit < size {
         return Err(Question(4).at(at));
     }
-    let next = take(s, start, size)?;
+    let bytes = take(s, start, size);
+    let Ok(next) = bytes else {
+        return bytes;
+    };
     let valid = text::valid_up_to(part(s, start, next));
     if valid == size {
         Ok(next)
@@ -130,5 +142,8 @@ pub fn part(s: &[u8], a: usize, b: usize) -> &[u8]
 pub fn string_text(s: &[u8], at: usize, limit: usize) -> &[u8]
     ensures { result.now ≡ text_of (read_text limit s.now at) }
 {
-    string_bounded(s, at, limit).map_or(part(s, 0, 0), |next| part(s, at + 4, next))
+    let Ok(next) = string_bounded(s, at, limit) else {
+        return part(s, 0, 0);
+    };
+    part(s, at + 4, next)
 }

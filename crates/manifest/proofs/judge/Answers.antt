@@ -4,19 +4,19 @@ use Rattle.state_manifest_codec.proofs.Reading.{passed_on}
 use Rattle.manifest.proofs.Judging.{located, located-no, located-yes, read-tabled, judge-unread, judge-no, judge-yes}
 use Rattle.manifest.proofs.judge.Goals as goal
 
-pub returns-in_err-end : goal.returns-in_err-end
-returns-in_err-end c = rw (passed_on c.from_residual.ensures.1, ← c.in_err-end.was) (judge-unread _ c.read_manifest.ensures c.in_err-end.was)
+pub returns-in_default : goal.returns-in_default
+returns-in_default c = judge-unread _ c.read_manifest-read.ensures c.in_default.is
 
 pub validate_manifest-requires : goal.validate_manifest-requires
-validate_manifest-requires c = read-tabled (λ i. (c.type_inv.s i).fits) c.read_manifest.ensures c.in_ok-end.was
+validate_manifest-requires c = read-tabled (λ i. (c.type_inv.s i).fits) c.read_manifest-read.ensures c.in-Ok.is
 
 pub returns-in_err-map_err : goal.returns-in_err-map_err
 returns-in_err-map_err c =
-    let e : c.map_err.result ≡ located c.in_ok-end.end c.validate_manifest.result = search rules in
+    let e : c.map_err.result ≡ located c.in-Ok.end c.validate_manifest.result = search rules in
     let n = located-no _ _ e c.in_err-map_err.was in
-    rw (passed_on c.from_residual-in_err-map_err.ensures.1, n.2) (judge-no _ c.read_manifest.ensures (λ i. (c.type_inv.s i).fits) c.in_ok-end.was c.validate_manifest.ensures.leaves (sym n.1 ∙ c.validate_manifest.ensures.value))
+    rw (passed_on c.from_residual.ensures.1, n.2) (judge-no _ c.read_manifest-read.ensures (λ i. (c.type_inv.s i).fits) c.in-Ok.is c.validate_manifest.ensures.leaves (sym n.1 ∙ c.validate_manifest.ensures.value))
 
 pub returns : goal.returns
 returns c =
-    let e : c.map_err.result ≡ located c.in_ok-end.end c.validate_manifest.result = search rules in
-    judge-yes _ c.read_manifest.ensures (λ i. (c.type_inv.s i).fits) c.in_ok-end.was c.validate_manifest.ensures.leaves (sym (located-yes _ _ e c.in_ok-map_err.was) ∙ c.validate_manifest.ensures.value)
+    let e : c.map_err.result ≡ located c.in-Ok.end c.validate_manifest.result = search rules in
+    judge-yes _ c.read_manifest-read.ensures (λ i. (c.type_inv.s i).fits) c.in-Ok.is c.validate_manifest.ensures.leaves (sym (located-yes _ _ e c.in_ok-map_err.was) ∙ c.validate_manifest.ensures.value)
