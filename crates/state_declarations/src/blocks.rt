@@ -141,13 +141,14 @@ fn block_answer(classes: Classes, at: usize) -> Result<(), Question>
     Ok(())
 }
 
-// The first of them that is answered no. Not `try_for_each`: tried, and what it owes of each call did not prove.
+// Questions 12 to 14 of all blocks, or the first that says no. Not `try_for_each`: tried, and what it owes of each call did not prove.
 pub(crate) fn blocks_answer(classes: Classes, blocks: &[u32]) -> Result<(), Question>
     requires are_bytes { AreBytes classes.s.now }
     requires all { All (Well max_snapshot_bytes (entry block_entries) classes.s.now) blocks.now }
     ensures { result ≡ said (first (map (block_answer (classes_of classes.entry.s.now classes.entry.words.now)) (map (value_at (entry block_entries) classes.entry.s.now) blocks.now))) }
 {
     for word in blocks {
+        // A word is a position: `as`, since usize has no From<u32>.
         block_answer(classes, *word as usize)?;
     }
     Ok(())

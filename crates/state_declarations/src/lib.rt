@@ -6,9 +6,7 @@ mod sets;
 
 ghost use Rattle.std.specs.Prelude.{◌≡◌, ◌+◌, ◌≤◌, length};
 ghost use Rattle.state.specs.Outcome.{said};
-ghost use Rattle.format.specs.Format.{text, ◌then◌};
 ghost use Rattle.format.specs.Manifest.{value};
-ghost use Rattle.format.specs.Places.{past};
 ghost use Rattle.questions.specs.Sets.{all, first};
 ghost use Rattle.questions.specs.Declarations.{has_member, declarations};
 ghost use Rattle.state_layout.specs.Tables.{Laid, Tabled, Leaves, manifest_of, room_start, room_end};
@@ -28,10 +26,11 @@ fn members_there(s: &[u8], classes: &[u32]) -> bool
 {
     classes
         .iter()
+        // A word is a position: `as`, since usize has no From<u32>.
         .all(|word| count_at(s, text_end(s, *word as usize)) != 0)
 }
 
-// The first that is answered no.
+// Questions 11 to 16, or the first that says no.
 #[tactic(auto, using(crate::proofs::Asking::asked))]
 fn answer(s: &[u8], tables: &[u32], room: &mut [u32]) -> Result<(), Question>
     requires laid { Laid s.now tables.now }
@@ -55,7 +54,7 @@ fn answer(s: &[u8], tables: &[u32], room: &mut [u32]) -> Result<(), Question>
     Ok(())
 }
 
-// The first that is answered no. The words behind the tables are room for marks.
+// Questions 11 to 16, or the first that says no. The words behind the tables are room for marks.
 #[tactic(auto, using(state_layout::proofs::Indexed::laid_front, state_layout::proofs::Indexed::leaves_split, state_layout::proofs::Indexed::laid_of, state_layout::proofs::Indexed::room_behind))]
 pub fn validate_declarations(s: &[u8], index: &mut [u32]) -> Result<(), Question>
     requires { Tabled s.now index.old }

@@ -20,6 +20,7 @@ use state_layout::keys::{Classes, Connectors, all_marked};
 use state_wire::part;
 
 // Marks what the entry at each word names: a step is given the place to try first, and gives the one to try next.
+// Marks stay a slice beside the keys: they are written while the keys are shared, and a struct of both would be borrowed whole at each step.
 // Not `try_fold`: tried, and that its closure leaves the borrowed marks as long as they were did not prove.
 fn mark_each<K: Copy, F: Fn(K, &mut [u32], usize, usize) -> Option<usize>>(
     keys: K,
@@ -35,6 +36,7 @@ fn mark_each<K: Copy, F: Fn(K, &mut [u32], usize, usize) -> Option<usize>>(
 {
     let mut next = 0;
     for word in words {
+        // A word is a position: `as`, since usize has no From<u32>.
         next = mark_entry(keys, marks, *word as usize, next)?;
     }
     Some(next)

@@ -51,6 +51,7 @@ fn definition_answer(
 {
     let s = classes.s;
     let key = text_part(s, at);
+    // The section says only how keys are ranked: a path is a text, as a definition's key is.
     let i = find::<{ Section::INPUT_DEFINITIONS }>(s, paths, &[], key, hint).ok_or(Question(28))?;
     let t = text_end(s, at);
     if !same_type(s, t, s, type_at(s, word_at(paths, i))) {
@@ -72,6 +73,7 @@ pub(crate) fn definitions_answer(
     ensures { result ≡ said (first (map (λ p. answer_among classes.entry.s.now (classes_of classes.entry.s.now classes.entry.words.now) paths.now (definition_at classes.entry.s.now p)) definitions.now)) }
 {
     definitions.iter().enumerate().try_for_each(|(hint, at)| {
+        // A word is a position: `as`, since usize has no From<u32>.
         definition_answer(classes, paths, *at as usize, hint)
     })
 }

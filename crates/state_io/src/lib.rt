@@ -17,7 +17,7 @@ use state::{Question, Section};
 use state_layout::keys::{Classes, Connectors, keys_of};
 use state_layout::{room_start, table_of};
 
-// Of the tables of the index: two words of room for each connector, one for its mark and one for its path.
+// Questions 27 to 30, of the tables of the index: two words of room for each connector, one for its mark and one for its path.
 #[tactic(auto, using(crate::proofs::Tabled::connectors_long))]
 fn inputs_answer(s: &[u8], tables: &[u32], room: &mut [u32]) -> Result<(), Question>
     requires laid { Laid s.now tables.now }

@@ -1,6 +1,5 @@
 // The paths of the connectors that external inputs name: those are marked, their paths sorted and compared with their neighbours.
 ghost use Rattle.std.specs.Prelude.{◌≡◌, map, ◌^◌, ◌≤◌, ◌<◌, length, take};
-ghost use Rattle.format.specs.Format.{number, text};
 ghost use Rattle.format.specs.Keys.{connector_key};
 ghost use Rattle.format.specs.Manifest as manifest;
 ghost use Rattle.format.specs.Places.{past};
@@ -14,13 +13,14 @@ ghost use Rattle.state_io.specs.Paths.{chosen, external_paths, another, count_ag
 use state::Section;
 use state_index::keys::connector_key_end;
 use state_index::words::sort;
-use state_index::{SortKey, ahead, key_part, text_end, text_part, word_at};
+use state_index::{SortKey, key_part, text_part, word_at};
 use state_key_order::same_bytes;
 use state_layout::ends::type_at;
 use state_layout::keys::Connectors;
 use state_layout::same_type;
 
 // Marks the connectors that external inputs name. The one behind that which was found is the next to try.
+// No answer is wanted here: that all are known was asked by 25.
 fn mark_inputs(connectors: Connectors, inputs: &[u32], marks: &mut [u32])
     requires { length marks.old ≡ length connectors.words.now }
     ensures { marks.new ≡ marks_of (keys_of manifest.external_inputs connectors.entry.s.now inputs.now) (keys_of manifest.connectors connectors.entry.s.now connectors.entry.words.now) }
@@ -28,6 +28,7 @@ fn mark_inputs(connectors: Connectors, inputs: &[u32], marks: &mut [u32])
     marks.fill(0);
     let mut hint = 0;
     for input in inputs {
+        // A word is a position: `as`, since usize has no From<u32>.
         let key = key_part(connectors.s, Section::EXTERNAL_INPUTS, *input as usize);
         if let Some(i) = connectors.mark(marks, key, hint) {
             hint = i + 1;
@@ -47,6 +48,7 @@ fn put_paths(connectors: Connectors, marks: &[u32], paths: &mut [u32]) -> usize
     for (connector, mark) in connectors.words.iter().zip(marks) {
         let is_marked = *mark != 0;
         if is_marked {
+            // A position fits in 32 bits, as asked.
             paths[count] = connector_key_end(connectors.s, *connector as usize) as u32;
             count += 1;
         }
@@ -74,7 +76,7 @@ pub(crate) fn external_paths<'i>(
     paths
 }
 
-// Whether the paths at a and at b are two; none where they are one path of two types.
+// Whether the paths at a and at b differ; none where they are one path with two types.
 #[tactic(auto, unfolding(crate::specs::Paths::agree))]
 fn another(s: &[u8], a: usize, b: usize) -> Option<bool>
     ensures { result ≡ another s.now a b }

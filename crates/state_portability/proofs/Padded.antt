@@ -8,11 +8,12 @@ use lib.ListN.{length, get_or, take, replicate}
 use lib.Seq.{take-append_seam}
 use lib.Dec.{leb, eqb}
 use lib.Pointwise.{pointwise}
-use borrow.Author.Tests.{leb-true, eqb-true, eq-eqb}
+use Rattle.std.proofs.lemmas.List.{get_or-take}
+use borrow.Author.Tests.{leb-true, eqb-true, eqb-false, eq-eqb}
 use Rattle.text.proofs.Blocks.{both}
 use Rattle.format.specs.Lists.{same}
 use Rattle.format.proofs.Lists.{same-lengths, same-apart, same-told}
-use Rattle.state_portability.specs.declared.TheConstants.{TARGET_BOUND_LENGTHS, TARGET_BOUND_ENDS, TARGET_BOUND_CLASSES}
+use Rattle.state_portability.specs.declared.TheConstants.{TARGET_BOUND_LENGTHS, TARGET_BOUND_CLASSES}
 use Rattle.questions.specs.Sets.{all}
 use Rattle.questions.specs.Portability.{ascii, target_bound_classes}
 
@@ -38,10 +39,6 @@ row-pad [] k = refl
 row-pad (n ∷ ns) zero = take-append_seam n (replicate (46 - length n) 0)
 row-pad (n ∷ ns) (suc k) = row-pad ns k
 
--- the last byte of a name
-abbrev last_of : List ℕ → ℕ
-last_of n = get_or n (length n - 1) 0
-
 -- as code compares bytes
 pub bytes-same : (x y : List ℕ) → pointwise eqb x y ≡ same x y
 bytes-same x y = same-told x y (pointwise eqb x y) (forth x y, λ e. rw e (back y))
@@ -65,10 +62,6 @@ module _ (k : ℕ) where
   unfolding target_bound_classes ascii
   row_long = at-name length 0 refl target_bound_classes k
 
-  pub row_end : get_or TARGET_BOUND_ENDS k 0 ≡ last_of row
-  unfolding target_bound_classes ascii
-  row_end = at-name last_of 0 refl target_bound_classes k
-
   pub row_front : take (get_or TARGET_BOUND_LENGTHS k 0) (get_or TARGET_BOUND_CLASSES k []) ≡ row
   unfolding target_bound_classes ascii
   row_front = ap (λ (n : ℕ). take n (get_or TARGET_BOUND_CLASSES k [])) row_long ∙ row-pad target_bound_classes k
@@ -79,9 +72,15 @@ module _ (k : ℕ) where
       let p = both (leb 1 (length row)) (leb (length row) 46) (each-is (λ n. leb 1 (length n) && leb (length n) 46) target_bound_classes refl k h) in
       (leb-true 1 (length row) p.0, leb-true (length row) 46 p.1)
 
+  last_byte : k < 15 → get_or row (get_or TARGET_BOUND_LENGTHS k 0 - 1) 0 ≡ get_or (get_or TARGET_BOUND_CLASSES k []) (get_or TARGET_BOUND_LENGTHS k 0 - 1) 0
+  last_byte h =
+      let n = get_or TARGET_BOUND_LENGTHS k 0 in
+      ap (λ (l : List ℕ). get_or l (n - 1) 0) (sym row_front) ∙ get_or-take n _ (n - 1) 0 (omega (arith, row_long, row_fits h))
+
   module _ (class : List ℕ) where
     pub other_length : (length class ≡ get_or TARGET_BOUND_LENGTHS k 0 → ⊥) → false ≡ same class row
     other_length h = sym (same-lengths class row (λ e. h (e ∙ sym row_long)))
 
-    pub other_end : (get_or class (get_or TARGET_BOUND_LENGTHS k 0 - 1) 0 ≡ get_or TARGET_BOUND_ENDS k 0 → ⊥) → false ≡ same class row
-    other_end h = sym (same-apart class row (λ e. h (rw (row_end, row_long, e))))
+    -- a last byte that is not the row's, where it is compared with the byte that stands there
+    pub other_end : k < 15 → {r : Bool} → r ≡ eqb (get_or class (get_or TARGET_BOUND_LENGTHS k 0 - 1) 0) (get_or (get_or TARGET_BOUND_CLASSES k []) (get_or TARGET_BOUND_LENGTHS k 0 - 1) 0) → r ≡ false → r ≡ same class row
+    other_end h i n = n ∙ sym (same-apart class row (λ e. eqb-false _ _ (sym i ∙ n) (rw e (last_byte h))))

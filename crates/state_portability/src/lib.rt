@@ -43,19 +43,15 @@ const TARGET_BOUND_CLASSES: [[u8; 46]; 15] = [
     *b"CDL.Utilities.SunRiseSet\0\0\0\0\0\0\0\0\0\0\0\0\0\0\0\0\0\0\0\0\0\0",
 ];
 
-// Their last bytes, which tell most classes of one length apart: the names start alike, so without them more rows would be compared.
-const TARGET_BOUND_ENDS: [u8; 15] = *b"iiisnn2spg0nnnt";
-
-// Is the class the row's? Only where length and last byte are its own are the bytes compared.
+// Is the class the row's? Only where length and last byte are its own are the bytes compared: the names start alike, and the last byte tells most
+// of one length apart.
 fn is_row(class: &[u8], row: usize) -> bool
     requires { row < 15 }
     ensures { result ≡ same class.now (get_or target_bound_classes row []) }
 {
     let n = TARGET_BOUND_LENGTHS[row];
-    if class.len() != n || class[n - 1] != TARGET_BOUND_ENDS[row] {
-        return false;
-    }
-    class == &TARGET_BOUND_CLASSES[row][..n]
+    let bytes = &TARGET_BOUND_CLASSES[row];
+    class.len() == n && class[n - 1] == bytes[n - 1] && class == &bytes[..n]
 }
 
 // Is the class one of those that depend on the target?
@@ -69,6 +65,7 @@ pub fn requires_target(class: &[u8]) -> bool
 fn some_requires_target(s: &[u8], blocks: &[u32]) -> bool
     ensures { result ≡ some_bound_at target_bound_classes s.now blocks.now }
 {
+    // A word is a position: `as`, since usize has no From<u32>.
     blocks.iter().any(|block| requires_target(text_part(s, block_key_end(s, *block as usize))))
 }
 

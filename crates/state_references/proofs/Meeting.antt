@@ -2,9 +2,9 @@
 use Prim.Native.Nat.{ℕ, ◌+◌, ◌≤◌, ◌<◌}
 use mathlib.Core.Path.{◌≡◌, refl, sym, ap, ◌∙◌}
 use mathlib.Core.Bool.{Bool, true, false, not, ◌&&◌, ◌||◌, and-true, or-true, or-false}
-use mathlib.Core.List.{List, [], ◌∷◌}
-use lib.ListN.{length, get_or, drop, replicate, length-map, drop_of_length-le}
-use lib.Seq.{drop-cons}
+use mathlib.Core.List.{List, [], ◌∷◌, ◌++◌}
+use lib.ListN.{length, get_or, drop, take, replicate, length-map, drop_of_length-le}
+use lib.Seq.{drop-cons, take-append_seam}
 use Rattle.std.proofs.Common.{add-one}
 use Rattle.std.specs.Prelude.{Option, Some, None, is_some}
 use Rattle.format.specs.Lists.{same, is_in, all_different}
@@ -154,3 +154,7 @@ module _ (ks names : List (List ℕ)) where
 
   pub once_all : {r : Bool} → true ≡ (all_in ks names && all_different ks) → r ≡ all_in names ks → r ≡ each_once ks names
   once_all i e = e ∙ sym (once-is ∙ rw (← i))
+
+-- ---- the marks stand at the front of the room
+pub marks_front : {n : ℕ} (marks rest : List ℕ) → n ≡ length marks → {b : Bool} → all is_set marks ≡ b → all is_set (take n (marks ++ rest)) ≡ b
+marks_front marks rest l h = rw (l, take-append_seam marks rest) h

@@ -4,7 +4,7 @@
 mod entries;
 mod sets;
 
-ghost use Rattle.std.specs.Prelude.{◌≡◌, map, ◌&&◌, ◌≤◌, ℕ, Bool, List, is_some};
+ghost use Rattle.std.specs.Prelude.{◌≡◌, true, map, ◌&&◌, ◌≤◌, ℕ, Bool, List, is_some, take, length};
 ghost use Rattle.state.specs.Outcome.{said};
 ghost use Rattle.format.specs.Lists.{all_different};
 ghost use Rattle.format.specs.Fields.{connectors_of, drivers_of, external_inputs_of, boundary_outputs_of, output_name};
@@ -12,6 +12,7 @@ ghost use Rattle.questions.specs.Sets.{all, all_in, each_once, first};
 ghost use Rattle.questions.specs.Declarations.{connector_names};
 ghost use Rattle.questions.specs.References.{drivers_hold, externals_hold, outputs_hold, references, boundaries};
 ghost use Rattle.state_layout.specs.Tables.{manifest_of, table_of, Laid, Tabled, Leaves};
+ghost use Rattle.state_layout.specs.Marks.{is_set};
 ghost use Rattle.state_references.specs.Known.{names_of, of_way};
 ghost use Rattle.state_references.specs.Rooms.{Roomy, keys_listed};
 
@@ -40,6 +41,7 @@ fn entries_hold<F: Fn(Connectors, usize, usize) -> Option<usize>>(
     let known: Connectors = keys_of(s, tables, room);
     table_of(s, tables, section)
         .iter()
+        // A word is a position: `as`, since usize has no From<u32>.
         .try_fold(0, |hint, word| holds(known, *word as usize, hint))
         .is_some()
 }
@@ -55,15 +57,16 @@ fn drivers_hold(s: &[u8], tables: &[u32], room: &[u32]) -> bool
     drivers.len() == connectors.len() && entries_hold(s, tables, room, Section::DRIVER_OF, drives)
 }
 
-// Are the keys that a section lists known, as those of section SECTION, and all different? Marks stand at the front of the room, since hints
-// stand at its end.
+// Are the keys that a section lists known, as those of section SECTION, and all different? The marks of those that are listed stand at the
+// front of the room, since hints stand at its end.
 #[tactic(auto, using(crate::proofs::Answered::room_marks))]
 fn all_listed_new<const SECTION: u8>(s: &[u8], tables: &[u32], room: &mut [u32], listed: u8) -> bool
     requires laid { Laid s.now tables.now }
     requires roomy { Roomy s.now room.old }
     requires section { (2 ≤ SECTION) × (SECTION ≤ 4) }
     requires listed_bound { listed ≤ 12 }
-    ensures { result ≡ (all_in (keys_listed SECTION listed s.now tables.now) (keys_listed SECTION SECTION s.now tables.now) && all_different (keys_listed SECTION listed s.now tables.now)) }
+    ensures answer { result ≡ (all_in (keys_listed SECTION listed s.now tables.now) (keys_listed SECTION SECTION s.now tables.now) && all_different (keys_listed SECTION listed s.now tables.now)) }
+    ensures marked { result ≡ true → all is_set (take (length (table_of SECTION s.now tables.now)) room.new) ≡ all_in (keys_listed SECTION SECTION s.now tables.now) (keys_listed SECTION listed s.now tables.now) }
 {
     let (marks, hints) = room.split_at_mut(table_of(s, tables, SECTION).len());
     let keys = keys_of::<SECTION>(s, tables, hints);
@@ -84,12 +87,11 @@ fn require_exact_set<const SECTION: u8>(
     requires listed_bound { listed ≤ 12 }
     ensures { result ≡ each_once (keys_listed SECTION listed s.now tables.now) (keys_listed SECTION SECTION s.now tables.now) }
 {
-    let (marks, hints) = room.split_at_mut(table_of(s, tables, SECTION).len());
-    let keys = keys_of::<SECTION>(s, tables, hints);
-    all_new(keys, marks, table_of(s, tables, listed)) && all_marked(marks)
+    let count = table_of(s, tables, SECTION).len();
+    all_listed_new::<SECTION>(s, tables, room, listed) && all_marked(&room[..count])
 }
 
-// Questions 17 to 20.
+// Questions 17 to 20. `Roomy` is a clause, not a type: the room is written by each of them, and the clause is on its length alone.
 #[tactic(auto, using(crate::proofs::Answered::connections_answer, crate::proofs::Answered::schedule_answer, crate::proofs::Answered::order_answer, crate::proofs::Answered::no_first, crate::proofs::Answered::yes_first, crate::proofs::Answered::yes_all), unfolding(questions::specs::References::references))]
 fn ask_references(s: &[u8], tables: &[u32], room: &mut [u32]) -> Result<(), Question>
     requires laid { Laid s.now tables.now }
@@ -134,7 +136,7 @@ fn fill_block_hints(s: &[u8], tables: &[u32], room: &mut [u32])
     }
 }
 
-// Questions 17 to 20, with hints of the tables in which keys are looked up; the connectors' serve 25 and 26 as well.
+// Questions 17 to 20, with hints of the tables in which keys are looked up; the connectors' serve 25 to 27 and 34 as well.
 #[tactic(auto, using(state_layout::proofs::Indexed::laid_of, state_layout::proofs::Indexed::laid_front, state_layout::proofs::Indexed::leaves_split, state_layout::proofs::Indexed::room_behind))]
 pub fn validate_references(s: &[u8], index: &mut [u32]) -> Result<(), Question>
     requires { Tabled s.now index.old }

@@ -25,11 +25,11 @@ pub(crate) fn all_new<const SECTION: u8>(
     // A `try_fold` as in lib.rt did not prove: of marks that its closure changes nothing is known behind it.
     let mut hint = 0;
     for word in listed {
+        // A word is a position: `as`, since usize has no From<u32>.
         let key = key_part(keys.s, SECTION, *word as usize);
         let Some(i) = keys.mark_new(marks, key, hint) else {
             return false;
         };
-        // That a plain sum fits did not prove: `mark_new` does not say that this is a place.
         hint = i + 1;
     }
     true

@@ -30,7 +30,7 @@ fn is_stateful(s: &[u8], block: usize) -> bool
     byte_at(s, block_kind_at(s, block)) == BlockKind::STATEFUL
 }
 
-// How many words its state has.
+// How many words its state has. Two steps lead there from the kind: a function for where it stands would be no plainer.
 #[tactic(auto, using(crate::proofs::Parts::length_at))]
 fn state_len(s: &[u8], block: usize) -> u64
     ensures { result ≡ state_len (block_at s.now block) }
@@ -43,6 +43,7 @@ fn state_len(s: &[u8], block: usize) -> u64
 fn next_stateful<'a>(s: &[u8], left: &mut Iter<'a, u32>) -> Option<&'a u32>
     ensures { NextStateful s.now (iter_rest left.old) (iter_rest left.new) result }
 {
+    // A word is a position: `as`, since usize has no From<u32>.
     left.find(|block| is_stateful(s, **block as usize))
 }
 
@@ -113,6 +114,7 @@ fn gather_offsets(s: &[u8], slots: &[u32], offsets: &mut [u32])
 {
     offsets.copy_from_slice(slots);
     for at in offsets.iter_mut() {
+        // A position fits in 32 bits, as asked.
         *at = block_key_end(s, *at as usize) as u32;
     }
 }
