@@ -76,6 +76,7 @@ pub extern "C" fn archive_compare(a: &[u8], b: &[u8], agree: &mut u64) -> u32
     code_of(c.order)
 }
 
+// A function for each name that include/archive.h has.
 #[unsafe(no_mangle)]
 pub extern "C" fn archive_compare_block_keys(
     left: &[u8],

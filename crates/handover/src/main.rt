@@ -1,5 +1,5 @@
-// Reads one manifest from standard input and prints what the hand-over desk bills: `accepted`, the state words and the units; or
-// `refused`, the number of the question and the offset. Base 0, revision 2.
+// Reads one manifest from standard input and prints what the hand-over desk bills: `accepted`, the state words and the units;
+// `refused`, the number of the question and the offset; or `too long`, where there are more bytes than are read. Base 0, revision 2.
 #![tactic(auto)]
 
 use state::{Refusal, Units};
@@ -10,7 +10,7 @@ use std::io::Read;
 // The most bytes that are read, and the index words that they need.
 const MOST: usize = 16384;
 
-const WORDS: usize = 8208;
+const WORDS: usize = MOST / 2 + 16;
 
 fn print_units(rt: &impl Print, units: Result<Units, Refusal<u64>>) -> io::Result<()> {
     match units {

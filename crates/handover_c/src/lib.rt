@@ -1,4 +1,5 @@
-// The calls on manifests for programs in C and Rust. Results and words are numbers, as C has them: include/handover.h says what each stands for.
+// The calls on manifests for programs in C and Rust. Results and words are numbers, and parameters stand apart, as C has them:
+// include/handover.h says what each stands for.
 #![tactic(auto)]
 
 ghost use Rattle.std.specs.Prelude.{◌≡◌, ◌≤◌, ◌-◌, ◌∷◌, ◌++◌, length, replicate};
@@ -37,6 +38,7 @@ fn refused(refusal: Refusal<u64>, side: u64) -> (u32, [u64; 16])
     )
 }
 
+// No `From`, here and in the two functions below: an answer is C's two numbers and no type of its own.
 fn decoded_answer(decoded: Decoded) -> (u32, [u64; 16])
     ensures { (result.0 ≡ decoded_code decoded) × (result.1 ≡ decoded_words decoded) }
 {

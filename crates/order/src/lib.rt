@@ -13,7 +13,8 @@ pub struct Compared {
     pub agree: usize,
 }
 
-// Do two lists differ in the n bytes from a position? Where n is a constant, a few vector instructions: counted from 0, so that the number of turns is known.
+// Do two byte strings differ in the n bytes from a position? Where n is a constant, a few vector instructions: counted from 0, so that the number of turns is known.
+// Two slices and a place stay three parameters, here and below: of a struct of them each function would take all apart.
 // By hand: `!=` of slices takes up to three times as long, and with `|=` in place of the `if`, `same` is a fifth slower.
 fn differ(a: &[u8], b: &[u8], at: usize, n: usize) -> bool
     requires { (at + n ≤ length a.now) × (at + n ≤ length b.now) × (take at a.now ≡ take at b.now) }
@@ -54,7 +55,7 @@ fn first_apart(a: &[u8], b: &[u8], from: usize, end: usize) -> Option<usize>
     (from..end).find(|k| a[*k] != b[*k])
 }
 
-// Whether two byte strings are the same. Where fewer than a block are left, the last block decides, which the one before it overlaps.
+// Whether two byte strings are the same. Where fewer than a block are left, the last block decides, which overlaps the one before it.
 // By hand: std's `==` is slower at 12 to 24 bytes and at 48, by 5 to 15 in 100.
 pub fn same(a: &[u8], b: &[u8]) -> bool
     ensures { (result ≡ true → a.now ≡ b.now) × (a.now ≡ b.now → result ≡ true) }
@@ -77,6 +78,7 @@ pub fn same(a: &[u8], b: &[u8]) -> bool
 }
 
 // Blocks as far as they are the same, then byte by byte to the first difference.
+// By hand: `cmp` of slices does not say how many bytes agree.
 pub fn compare(a: &[u8], b: &[u8]) -> Compared
     ensures { result ≡ compared a.now b.now }
 {

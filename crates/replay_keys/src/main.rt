@@ -45,6 +45,7 @@ fn print_number<N: Display + Drop>(
     }
 }
 
+// The words here and in `print_keys` are this protocol's.
 fn print_compared(rt: &impl Print, compared: Compared) -> io::Result<()> {
     let order = match compared.order {
         Ordering::Less => "less",
@@ -73,6 +74,7 @@ fn print_hex(rt: &impl Print, s: &[u8]) -> io::Result<()> {
     println!(rt)
 }
 
+// A function for each letter. The printer, the line and the room go to each: a struct of the three would be taken apart in each.
 fn text_line(rt: &impl Print, line: &[u8], room: &mut [u8]) -> io::Result<()> {
     let valid = text::valid_up_to(bytes(line, 1, room));
     println!(rt; "{valid}")

@@ -32,7 +32,7 @@ const WORDS: usize = 512;
 const FILL: u32 = 0xa5a5a5a5;
 
 // The question whether the index is long enough: its refusal alone leaves the index untouched.
-const INDEX_IS_SHORT: Question = Question(2);
+const INDEX_LENGTH: Question = Question(2);
 
 // Room for the bytes of one manifest and for its index.
 #[derive(Drop)]
@@ -83,7 +83,7 @@ fn are_all(words: &[u32], word: u32) -> bool {
 
 // Whether the index is what a refusal leaves: cleared, but for one question.
 fn is_refused(question: Question, index: &[u32]) -> bool {
-    are_all(index, if question == INDEX_IS_SHORT { FILL } else { 0 })
+    are_all(index, if question == INDEX_LENGTH { FILL } else { 0 })
 }
 
 // Whether the words behind the starts are what acceptance leaves.
@@ -217,6 +217,7 @@ fn next_byte(reader: &mut impl BufRead) -> io::Result<Option<u8>> {
 }
 
 // Reads a line, without its end, or as much of it as there is room for; or nothing where the input has ended.
+// Not `read_until`: it fills a `Vec`, and nothing is allocated.
 fn next_line<'a>(reader: &mut impl BufRead, room: &'a mut [u8]) -> io::Result<Option<&'a [u8]>> {
     for n in 0..room.len() {
         match next_byte(reader)? {

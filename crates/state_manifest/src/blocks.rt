@@ -1,5 +1,5 @@
 // Section 3 of two accepted manifests, block by block and field by field.
-ghost use Rattle.std.specs.Prelude.{◌≡◌, ◌≤◌};
+ghost use Rattle.std.specs.Prelude.{◌≡◌, ◌+◌};
 ghost use Rattle.format.specs.Keys.{block_key};
 ghost use Rattle.format.specs.Format.{number, tag, text, ◌then◌};
 ghost use Rattle.format.specs.Manifest.{value, connector_keys, block_head, entry, counted, blocks};
@@ -8,7 +8,7 @@ ghost use Rattle.format.specs.Values.{value_at};
 ghost use Rattle.verdict.specs.Verdict.{compatible, head_verdict, param_verdict, ports_verdict, listwise, block_verdict};
 ghost use Rattle.state_manifest.specs.Comparing.{Both, Moved, ports, ports_at};
 
-use super::compare::{Sides, compare_counts, compare_lists, compare_part, enter};
+use super::compare::{Sides, compare_counts, compare_lists, compare_part, enter, in_section};
 use state::{Difference, Part, Section, Verdict};
 use state_index::keys::{block_key_end, connector_key_end};
 use state_index::{ahead, text_end};
@@ -19,14 +19,12 @@ fn in_block(part: u8, i: usize, j: usize) -> Difference
     ensures { result ≡ record { section = 3; part = part; entry = i; inner = j } }
 {
     Difference {
-        section: Section::BLOCKS,
-        part,
-        entry: i,
         inner: j,
+        ..in_section(Section::BLOCKS, part, i)
     }
 }
 
-// Where a block's kind ends.
+// Where a block's kind ends. Not `number_end::<1>`: its contract names a tag's format, not a number's.
 #[tactic(auto, unfolding(format::specs::Places::past))]
 fn kind_end(s: &[u8], at: usize) -> usize
     ensures { result ≡ past (tag 2) s.now at }
@@ -71,15 +69,21 @@ fn compare_parameter(s: &[u8], t: &[u8], at: &mut Sides, i: usize, j: usize) -> 
     compare_part(s, t, at, value_end, in_block(Part::PARAMETER_VALUE, i, j))
 }
 
-// The inputs of block i, which are part 9, or its outputs, part 11; their count is the next part. The places move behind them.
+// The inputs of block i, or its outputs, by their part and their count's, which document 01 numbers next. The places move behind them.
 #[tactic(auto, using(crate::proofs::Fields::ports_are), unfolding(format::specs::Manifest::connector_keys, format::specs::Places::past))]
-fn compare_port_bindings(s: &[u8], t: &[u8], at: &mut Sides, part: u8, i: usize) -> Verdict
+fn compare_port_bindings(
+    s: &[u8],
+    t: &[u8],
+    at: &mut Sides,
+    part: u8,
+    count: u8,
+    i: usize,
+) -> Verdict
     requires both { Both (counted ports) s.now t.now at.old.snapshot at.old.target }
-    requires part_bound { part ≤ 11 }
+    requires count_next { count ≡ part + 1 }
     ensures verdict { result ≡ ports_verdict part i (value_at connector_keys s.now at.old.snapshot) (value_at connector_keys t.now at.old.target) }
     ensures moved { result ≡ compatible → Moved connector_keys s.now t.now at.old at.new }
 {
-    let count = part + 1;
     compare_lists(
         s,
         t,
@@ -96,8 +100,8 @@ fn compare_ports(s: &[u8], t: &[u8], at: &mut Sides, i: usize) -> Verdict
     ensures verdict { result ≡ ports_at i s.now t.now at.old.snapshot at.old.target }
     ensures moved { result ≡ compatible → Moved (connector_keys then connector_keys) s.now t.now at.old at.new }
 {
-    compare_port_bindings(s, t, at, Part::INPUT, i)?;
-    compare_port_bindings(s, t, at, Part::OUTPUT, i)
+    compare_port_bindings(s, t, at, Part::INPUT, Part::INPUT_COUNT, i)?;
+    compare_port_bindings(s, t, at, Part::OUTPUT, Part::OUTPUT_COUNT, i)
 }
 
 // Section 3, whose counts stand at two places. Blocks and parameters are left together at the first difference.

@@ -5,7 +5,7 @@ ghost use Rattle.format.specs.Lists.{same};
 ghost use Rattle.format.specs.Manifest.{entry, counted};
 ghost use Rattle.format.specs.Places.{number_at, past};
 ghost use Rattle.format.specs.Values.{value_at};
-ghost use Rattle.verdict.specs.Verdict.{compatible, entrywise, verdict};
+ghost use Rattle.verdict.specs.Verdict.{compatible, verdict};
 ghost use Rattle.state_layout.specs.Tables.{manifest_of};
 ghost use Rattle.state_manifest.specs.Comparing.{Both, Lists, Tells, lists_verdict, Moved, comparison, Stands};
 
@@ -17,7 +17,8 @@ use state_key_order::same_bytes;
 use state_layout::ends::{class_end, connector_end, definition_end};
 use state_wire::part;
 
-// A place, or a count, of the snapshot's manifest and one of the target's.
+// A place, or a count, of the snapshot's manifest and one of the target's. Bytes stand beside it as `s` and `t`: they are shared and
+// the places move, and a struct of all would be borrowed whole where a part is compared.
 #[derive(Clone, Copy)]
 pub(crate) struct Sides {
     pub snapshot: usize,
@@ -106,7 +107,7 @@ pub(crate) fn compare_lists<
 }
 
 // A difference of a section, in an entry or in the count of them.
-fn in_section(section: u8, part: u8, entry: usize) -> Difference
+pub(crate) fn in_section(section: u8, part: u8, entry: usize) -> Difference
     ensures { result ≡ record { section = section; part = part; entry = entry; inner = 0 } }
 {
     Difference {

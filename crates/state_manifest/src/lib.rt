@@ -51,14 +51,11 @@ fn count_units(s: &[u8], index: &mut [u32]) -> Result<Units, Refusal<u64>>
     let words = state_words(s, section_start(index, Section::STATE_SLOTS));
     // std has no From between usize and u64; both are 64 bits wide here.
     let connectors = count_at(s, section_start(index, Section::CONNECTORS)) as u64;
-    if (u64::MAX - connectors) / 4 < words {
+    let Some(units) = words.checked_mul(4).and_then(|w| w.checked_add(connectors)) else {
         index.fill(0);
         return Err(Question(39).at(0));
-    }
-    Ok(Units {
-        words,
-        units: 4 * words + connectors,
-    })
+    };
+    Ok(Units { words, units })
 }
 
 // The word total and the units of a manifest, or its refusal. The index is left as `decode_manifest` leaves it, but cleared after 39.

@@ -1,4 +1,4 @@
-// How far bytes are text: UTF-8 as RFC 3629 has it.
+// How far bytes are text: UTF-8 as RFC 3629 has it. Text and position stay two parameters: the look-back needs the octets before.
 #![tactic(auto)]
 
 mod ascii;
@@ -32,7 +32,7 @@ fn chars(s: &[u8], from: usize) -> usize
 {
     let mut at = from;
     while let Some(width) = char_width(&s[at..]) {
-        // Each width is added as a constant, so that the next load does not wait for the octets before it. Slower as a variable, by 7 in 100 on short strings.
+        // Widths 1 to 3 are added as constants, so that the next load does not wait for the octets before it. Slower as a variable, by 7 in 100 on short strings.
         at = match width {
             1 => ascii_bytes(s, at + 1),
             2 => at + 2,

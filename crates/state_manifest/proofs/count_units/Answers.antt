@@ -1,4 +1,4 @@
-use mathlib.Core.Path.{◌≡◌, refl, ◌∙◌}
+use mathlib.Core.Path.{◌≡◌, ◌∙◌}
 use lib.ListN.{length, replicate}
 use Rattle.std.proofs.Common.{rules}
 use native.Mathlib.Omega.{arith}
@@ -8,10 +8,14 @@ use Rattle.state_manifest.proofs.count_units.Goals as goal
 pub state_words-words-requires : goal.state_words-words-requires
 state_words-words-requires c = slots-fit c.requires c.section_start.ensures
 
-pub returns-then-connectors-words : goal.returns-then-connectors-words
-returns-then-connectors-words c =
+pub returns-in_default-clause-value : goal.returns-in_default-clause-value
+returns-in_default-clause-value c =
+    let p = units-above c.requires c.section_start.ensures c.state_words-words.ensures c.section_start-2.ensures c.count_at.ensures (grind (arith, rules)) in rw c.at.ensures p.0
+
+pub returns-in_default-clause-index_after : goal.returns-in_default-clause-index_after
+returns-in_default-clause-index_after c =
     let n : c.fill.new.self ≡ replicate (length c.args.index.now) 0 = search rules in
-    let p = units-above c.requires c.section_start.ensures c.state_words-words.ensures c.section_start-2.ensures c.count_at-connectors.ensures (omega arith) in record { value = rw c.at.ensures p.0; index_after = n ∙ p.1 }
+    let p = units-above c.requires c.section_start.ensures c.state_words-words.ensures c.section_start-2.ensures c.count_at.ensures (grind (arith, rules)) in n ∙ p.1
 
 pub returns : goal.returns
-returns c = let p = units-fit c.requires c.section_start.ensures c.state_words-words.ensures c.section_start-2.ensures c.count_at-connectors.ensures refl (omega arith) in record { value = p.0; index_after = p.1 }
+returns c = let p = units-fit c.requires c.section_start.ensures c.state_words-words.ensures c.section_start-2.ensures c.count_at.ensures (grind (arith, rules)) (grind (arith, rules)) in record { value = p.0; index_after = p.1 }
