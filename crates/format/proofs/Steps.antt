@@ -1,5 +1,5 @@
 -- What the code that walks over the bytes cites: a format's reading with the value forgotten, from what its callees answered.
-use Prim.Native.Nat.{ℕ, zero, suc, ◌<◌}
+use Prim.Native.Nat.{ℕ}
 use mathlib.Core.Path.{◌≡◌, refl, sym, ap, ◌∙◌}
 use mathlib.Core.List.{List}
 use Rattle.state.specs.declared.Refusal.{Refusal}
@@ -29,10 +29,6 @@ module _ (limit : ℕ) (s : List ℕ) (at : ℕ) where
   pub then-stop : (a b : Fmt) {r : Stepped} {d : Refusal ℕ} → r ≡ scan limit a s at → r ≡ Err d → r ≡ scan limit (a then b) s at
   then-stop a b e h = h ∙ sym (rw (scan-then limit s at a b, ← e, h))
 
-  -- .. and a refusal as `?` passes it on
-  pub then-err : (a b : Fmt) {x : Stepped} {d : Refusal ℕ} → x ≡ scan limit a s at → x ≡ Err d → Err d ≡ scan limit (a then b) s at
-  then-err a b e h = then-stop a b (sym h ∙ e) refl
-
   -- ---- a tag, and what it chooses
   pub tagged-on : (k : ℕ) (f : ℕ → Fmt) {g : NumberRead} {r : Stepped} {t m : ℕ} (c : ℕ) → g ≡ field_of (read_tag k s at) → g ≡ Ok (t, m) → t ≡ c → r ≡ scan limit (f c) s m → r ≡ scan limit (tagged k f) s at
   tagged-on k f {m = m} c e h q i = i ∙ sym (scan-tagged limit s at k f c m (value-got (read_tag k s at) e (h ∙ ap (λ x. Ok (x, m)) q)))
@@ -41,24 +37,12 @@ module _ (limit : ℕ) (s : List ℕ) (at : ℕ) where
   unfolding scan read
   tagged-stop k f e h i = i ∙ ap step_of_field h ∙ rw (value-refused (read_tag k s at) e h)
 
-  pub tagged-err : (k : ℕ) (f : ℕ → Fmt) {g : NumberRead} {d : Refusal ℕ} → g ≡ field_of (read_tag k s at) → g ≡ Err d → Err d ≡ scan limit (tagged k f) s at
-  tagged-err k f e h = tagged-stop k f e h (sym (ap step_of_field h))
-
   pub tagged-as : (k : ℕ) (f : ℕ → Fmt) {g : NumberRead} {r : Stepped} {t m : ℕ} (h : Fmt) → g ≡ field_of (read_tag k s at) → g ≡ Ok (t, m) → f t ≡ h → r ≡ scan limit h s m → r ≡ scan limit (tagged k f) s at
   tagged-as k f {t = t} {m = m} h e i q j = tagged-on k f t e i refl (j ∙ sym (ap (λ (x : Fmt). scan limit x s m) q))
 
   -- the second of two
   pub tagged-second : (f : ℕ → Fmt) {g : NumberRead} {r : Stepped} {t m : ℕ} → g ≡ field_of (read_tag 2 s at) → g ≡ Ok (t, m) → (t ≡ 0 → ⊥) → r ≡ scan limit (f 1) s m → r ≡ scan limit (tagged 2 f) s at
   tagged-second f {t = t} e h n i = let b = tag_below 2 s at e h in let one : t ≡ 1 = omega (arith, n) in tagged-on 2 f 1 e h one i
-
-  -- either of two, where what comes is the same
-  pub tagged-both : (f : ℕ → Fmt) {g : NumberRead} {r : Stepped} {t m : ℕ} → g ≡ field_of (read_tag 2 s at) → g ≡ Ok (t, m) → r ≡ scan limit (f 0) s m → r ≡ scan limit (f 1) s m → r ≡ scan limit (tagged 2 f) s at
-  tagged-both f {r = r} {t = t} {m = m} e h i j = tagged-on 2 f t e h refl (go t (tag_below 2 s at e h))
-    where
-      go : (t : ℕ) → t < 2 → r ≡ scan limit (f t) s m
-      go zero l = i
-      go (suc zero) l = j
-      go (suc (suc n)) l = absurd (omega arith)
 
   -- ---- fields passed over
   pub done-step : Ok at ≡ scan limit done s at

@@ -2,7 +2,8 @@
 ghost use Rattle.std.specs.Prelude.{◌≡◌, ◌<◌, ◌≤◌, length, fold, max};
 ghost use Rattle.text.specs.Blocks.{Passed};
 
-// A number that none of the octets is above: where their count is a constant, a few loads and maxima.
+// A number that none of the octets is above: where their count is a constant, a few loads and maxima. By hand: std's `is_ascii` goes by words
+// of eight octets, and LLVM makes no wider vectors of it.
 fn high(block: &[u8]) -> u8
     ensures { result ≡ fold max 0 block.now }
 {

@@ -11,7 +11,7 @@ returns-in-Err c =
 
 pub read_tail-requires : goal.read_tail-requires
 read_tail-requires c =
-    record { asked = asked c.judge.ensures c.in_default.is; are_bytes = λ i. (c.type_inv.tail i).fits }
+    record { asked = asked c.judge.ensures c.in_default.is }
 
 pub accepted-requires : goal.accepted-requires
 accepted-requires c =
