@@ -2,7 +2,7 @@
 #![tactic(auto)]
 
 pub mod ends;
-pub mod hints;
+mod hints;
 pub mod keys;
 
 ghost use Rattle.std.specs.Prelude.{◌≡◌, ◌≤◌, suc};
