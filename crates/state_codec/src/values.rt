@@ -18,8 +18,8 @@ use state_index::keys::{connector_key_end, count_at};
 use state_index::{ahead, key_part, word_at};
 use state_key_order::read_connector_key;
 use state_layout::ends::{connector_type_at, value_end};
-use state_layout::keys::{Classes, Connectors, keys_of, validate_value_enum};
-use state_layout::{room_start, same_type};
+use state_layout::keys::{Classes, Connectors, validate_value_enum};
+use state_layout::{Manifest, room_start, same_type};
 use state_manifest_codec::lists::read_ascending;
 use state_manifest_codec::values::read_value;
 
@@ -80,9 +80,10 @@ pub(crate) fn validate_values(s: &[u8], index: &[u32], t: &[u8]) -> Result<(), Q
     requires well { Well max_snapshot_bytes (counted values) t.now 0 }
     ensures { result ≡ said (values_answer (enums_of (manifest_of s.now)) (connectors_of (manifest_of s.now)) (value_at (counted values) t.now 0)) }
 {
-    let (tables, room) = index.split_at(room_start(s, index));
-    let classes: Classes = keys_of(s, tables, &[]);
-    let connectors: Connectors = keys_of(s, tables, room);
+    let (words, room) = index.split_at(room_start(s, index));
+    let m = Manifest { s, words };
+    let classes: Classes = m.keys(&[]);
+    let connectors: Connectors = m.keys(room);
     if count_at(t, 0) != connectors.words.len() {
         return Err(Question(33));
     }

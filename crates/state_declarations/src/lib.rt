@@ -9,7 +9,7 @@ ghost use Rattle.state.specs.Outcome.{said};
 ghost use Rattle.format.specs.Manifest.{value};
 ghost use Rattle.questions.specs.Sets.{all, first};
 ghost use Rattle.questions.specs.Declarations.{has_member, declarations};
-ghost use Rattle.state_layout.specs.Tables.{Laid, Tabled, Leaves, manifest_of, room_start, room_end};
+ghost use Rattle.state_layout.specs.Tables.{Tabled, Leaves, manifest_of, room_start, room_end};
 ghost use Rattle.state_layout.specs.Keys.{classes_of};
 
 use blocks::blocks_answer;
@@ -17,8 +17,8 @@ use sets::{classes_are, ports_are};
 use state::{Question, Section};
 use state_index::keys::count_at;
 use state_index::text_end;
-use state_layout::keys::{Classes, Connectors, keys_of};
-use state_layout::{room_start, table_of};
+use state_layout::keys::{Classes, Connectors};
+use state_layout::{Manifest, room_start};
 
 // Question 11 of the classes that words list.
 fn members_there(s: &[u8], classes: &[u32]) -> bool
@@ -32,15 +32,14 @@ fn members_there(s: &[u8], classes: &[u32]) -> bool
 
 // Questions 11 to 16, or the first that says no.
 #[tactic(auto, using(crate::proofs::Asking::asked))]
-fn answer(s: &[u8], tables: &[u32], room: &mut [u32]) -> Result<(), Question>
-    requires laid { Laid s.now tables.now }
-    requires long { room_end s.now ≤ room_start s.now + length room.old }
-    ensures { result ≡ said (first (declarations (manifest_of s.now))) }
+fn answer(m: Manifest, room: &mut [u32]) -> Result<(), Question>
+    requires long { room_end m.s.now ≤ room_start m.s.now + length room.old }
+    ensures { result ≡ said (first (declarations (manifest_of m.entry.s.now))) }
 {
-    let classes: Classes = keys_of(s, tables, &[]);
-    let connectors: Connectors = keys_of(s, tables, &[]);
-    let blocks = table_of(s, tables, Section::BLOCKS);
-    if !members_there(s, classes.words) {
+    let classes: Classes = m.keys(&[]);
+    let connectors: Connectors = m.keys(&[]);
+    let blocks = m.table(Section::BLOCKS);
+    if !members_there(m.s, classes.words) {
         return Err(Question(11));
     }
     blocks_answer(classes, blocks)?;
@@ -62,6 +61,6 @@ pub fn validate_declarations(s: &[u8], index: &mut [u32]) -> Result<(), Question
     ensures leaves { Leaves s.now index.old index.new }
 {
     let end = room_start(s, index);
-    let (tables, room) = index.split_at_mut(end);
-    answer(s, tables, room)
+    let (words, room) = index.split_at_mut(end);
+    answer(Manifest { s, words }, room)
 }

@@ -2,3 +2,4 @@
 pub mod Tables
 pub mod Marks
 pub mod Keys
+pub mod Laid

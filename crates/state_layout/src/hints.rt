@@ -1,8 +1,7 @@
 // Fills the hints of a table, with which `find` begins: words at the end of the room, behind all tables.
 ghost use Rattle.std.specs.Prelude.{◌≡◌, IfSome, ◌+◌, ◌*◌, ◌-◌, ◌^◌, ◌≤◌, ◌<◌, length};
-ghost use Rattle.state_layout.specs.Tables.{Laid};
 
-use super::range_of;
+use super::Manifest;
 use state_index::key_part;
 use state_index::words::hints_of;
 use std::ops::Range;
@@ -41,17 +40,18 @@ pub(crate) fn hints_range(room: usize, table: &Range<usize>) -> Option<Range<usi
     Some(room - HINTS * table.end..room - HINTS * table.start)
 }
 
-// Fills the hints of a section's table of eight words or more, if the room has so many.
-#[tactic(auto, using(crate::proofs::Hinting::table_fits))]
-pub fn fill_hints(s: &[u8], tables: &[u32], room: &mut [u32], section: u8)
-    requires laid { Laid s.now tables.now }
-    requires section_bound { section ≤ 12 }
-{
-    let table = range_of(s, tables, section);
-    if table.end - table.start < 8 {
-        return;
-    }
-    if let Some(hints) = hints_range(room.len(), &table) {
-        put_all(s, section, &tables[table], &mut room[hints]);
+impl Manifest<'_> {
+    // Fills the hints of a section's table of eight words or more, if the room has so many.
+    #[tactic(auto, using(crate::proofs::Hinting::table_fits))]
+    pub fn fill_hints(self, room: &mut [u32], section: u8)
+        requires section_bound { section ≤ 12 }
+    {
+        let table = self.range(section);
+        if table.end - table.start < 8 {
+            return;
+        }
+        if let Some(hints) = hints_range(room.len(), &table) {
+            put_all(self.s, section, &self.words[table], &mut room[hints]);
+        }
     }
 }

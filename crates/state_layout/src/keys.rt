@@ -5,12 +5,12 @@ ghost use Rattle.format.specs.Values.{value_at};
 ghost use Rattle.questions.specs.Sets.{all};
 ghost use Rattle.questions.specs.Declarations.{enum_holds};
 ghost use Rattle.state_index.specs.Words.{Found};
-ghost use Rattle.state_layout.specs.Tables.{Laid, table_of};
+ghost use Rattle.state_layout.specs.Tables.{table_of};
 ghost use Rattle.state_layout.specs.Marks.{is_set};
 ghost use Rattle.state_layout.specs.Keys.{Ascends, Ascends-prop, classes_of, Met, MetNew};
 
+use super::Manifest;
 use super::hints::hints_range;
-use super::range_of;
 use state::{Section, WireValueType};
 use state_index::keys::{byte_at, count_at};
 use state_index::{ahead, text_end, text_part, word_at, words};
@@ -29,26 +29,23 @@ pub type Classes<'a> = Keys<'a, { Section::ENUMS }>;
 
 pub type Connectors<'a> = Keys<'a, { Section::CONNECTORS }>;
 
-// A section whose keys ascend, with the hints that may stand at the end of the room.
-#[tactic(auto, using(crate::proofs::Names::laid_ascends, crate::proofs::Indexed::start_there, crate::proofs::Indexed::start_next))]
-pub fn keys_of<'a, const SECTION: u8>(
-    s: &'a [u8],
-    tables: &'a [u32],
-    room: &'a [u32],
-) -> Keys<'a, SECTION>
-    requires laid { Laid s.now tables.now }
-    requires section { (2 ≤ SECTION) × (SECTION ≤ 4) }
-    ensures { (result.s.now ≡ s.now) × (result.words.now ≡ table_of SECTION s.now tables.now) }
-{
-    let table = range_of(s, tables, SECTION);
-    let hints = match hints_range(room.len(), &table) {
-        Some(hints) => &room[hints],
-        None => &[],
-    };
-    Keys {
-        s,
-        words: &tables[table],
-        hints,
+impl<'a> Manifest<'a> {
+    // A section whose keys ascend, with the hints that may stand at the end of the room.
+    #[tactic(auto, using(crate::proofs::Names::laid_ascends, crate::proofs::Indexed::start_there, crate::proofs::Indexed::start_next))]
+    pub fn keys<const SECTION: u8>(self, room: &'a [u32]) -> Keys<'a, SECTION>
+        requires section { (2 ≤ SECTION) × (SECTION ≤ 4) }
+        ensures { (result.s.now ≡ self.entry.s.now) × (result.words.now ≡ table_of SECTION self.entry.s.now self.entry.words.now) }
+    {
+        let table = self.range(SECTION);
+        let hints = match hints_range(room.len(), &table) {
+            Some(hints) => &room[hints],
+            None => &[],
+        };
+        Keys {
+            s: self.s,
+            words: &self.words[table],
+            hints,
+        }
     }
 }
 

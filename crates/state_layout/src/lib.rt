@@ -2,7 +2,7 @@
 #![tactic(auto)]
 
 pub mod ends;
-pub mod hints;
+mod hints;
 pub mod keys;
 
 ghost use Rattle.std.specs.Prelude.{◌≡◌, ◌≤◌, suc};
@@ -10,6 +10,7 @@ ghost use Rattle.format.specs.Manifest.{value_type};
 ghost use Rattle.format.specs.Values.{value_at};
 ghost use Rattle.questions.specs.Inputs.{same_type};
 ghost use Rattle.state_layout.specs.Tables.{Laid, table_start, table_of, room_start, manifest_of};
+ghost use Rattle.state_layout.specs.Laid.{Laid-prop};
 
 use state::{Section, WireValueType};
 use state_index::keys::{byte_at, count_at};
@@ -51,21 +52,29 @@ pub fn room_start(s: &[u8], index: &[u32]) -> usize
     start_of(s, index, Section::INPUT_DEFINITIONS + 1)
 }
 
-// Where the table of a section lies.
-pub(crate) fn range_of(s: &[u8], index: &[u32], section: u8) -> Range<usize>
-    requires laid { Laid s.now index.now }
-    requires section_bound { section ≤ 12 }
-    ensures { (result.start ≡ table_start section (manifest_of s.now)) × (result.end ≡ table_start (suc section) (manifest_of s.now)) }
-{
-    start_of(s, index, section)..start_of(s, index, section + 1)
+// A manifest that was read: its bytes, and the words that begin with the starts of its sections and of their entries.
+#[derive(Clone, Copy)]
+pub struct Manifest<'a> {
+    pub s: &'a [u8],
+    pub words: &'a [u32],
+    pub ghost laid: { Laid s.now words.now } by { Laid-prop s.now words.now },
 }
 
-// The table of a section: the words that say where its entries start.
-#[tactic(auto, using(crate::proofs::Indexed::start_next, crate::proofs::Indexed::start_there))]
-pub fn table_of<'i>(s: &[u8], index: &'i [u32], section: u8) -> &'i [u32]
-    requires laid { Laid s.now index.now }
-    requires section_bound { section ≤ 12 }
-    ensures { result.now ≡ table_of section s.now index.now }
-{
-    &index[range_of(s, index, section)]
+impl<'a> Manifest<'a> {
+    // Where the table of a section lies.
+    pub(crate) fn range(self, section: u8) -> Range<usize>
+        requires section_bound { section ≤ 12 }
+        ensures { (result.start ≡ table_start section (manifest_of self.entry.s.now)) × (result.end ≡ table_start (suc section) (manifest_of self.entry.s.now)) }
+    {
+        start_of(self.s, self.words, section)..start_of(self.s, self.words, section + 1)
+    }
+
+    // The table of a section: the words that say where its entries start.
+    #[tactic(auto, using(crate::proofs::Indexed::start_next, crate::proofs::Indexed::start_there))]
+    pub fn table(self, section: u8) -> &'a [u32]
+        requires section_bound { section ≤ 12 }
+        ensures { result.now ≡ table_of section self.entry.s.now self.entry.words.now }
+    {
+        &self.words[self.range(section)]
+    }
 }

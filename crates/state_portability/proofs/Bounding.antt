@@ -17,8 +17,8 @@ use Rattle.format.specs.Values.{value_at}
 use Rattle.questions.specs.Sets.{any, all, ◌unless◌, first}
 use Rattle.questions.specs.Portability.{some_bound, tag_holds, target_holds, portability_holds, target_bound_classes}
 use Rattle.questions.proofs.Chains.{says-yes, says-no}
-use Rattle.state_layout.specs.Tables.{manifest_of, table_of, Tabled}
-use Rattle.state_layout.proofs.Indexed.{table-blocks, laid_of}
+use Rattle.state_layout.specs.Tables.{manifest_of, table_of, Laid}
+use Rattle.state_layout.proofs.Indexed.{table-blocks}
 use Rattle.state_portability.specs.Bound.{some_bound_at}
 
 -- ---- the words that list blocks
@@ -32,14 +32,14 @@ pub tag_unasked : (s : List ℕ) (revision : ℕ) → eqb revision 2 ≡ false �
 unfolding tag_holds
 tag_unasked s revision e = rw e
 
-module _ {s index : List ℕ} (t : Tabled s index) where
+module _ {s index : List ℕ} (t : Laid s index) where
   pub tag_asked : (revision : ℕ) → eqb revision 2 ≡ true → {b : Bool} → b ≡ some_bound_at target_bound_classes s (table_of 3 s index) → {tag : ℕ} → tag ≡ get_or s 0 0
       → beq b (eqb tag 1) ≡ tag_holds target_bound_classes revision (manifest_of s)
   unfolding tag_holds value_at manifest portability_of portability_tag portability
   tag_asked revision asked {b} some {tag} reads = rw (asked, ← some_is, ← reads) (either b (eqb tag 1))
     where
       some_is : b ≡ some_bound target_bound_classes (blocks_of (manifest_of s))
-      some_is = some ∙ some-listed target_bound_classes s (table_of 3 s index) ∙ ap (some_bound target_bound_classes) (table-blocks (laid_of t)).values
+      some_is = some ∙ some-listed target_bound_classes s (table_of 3 s index) ∙ ap (some_bound target_bound_classes) (table-blocks t).values
 
       either : (b t : Bool) → beq b t ≡ cond b t (not t)
       either true true = refl

@@ -13,7 +13,7 @@ ghost use Rattle.state_portability.specs.Bound.{some_bound_at};
 use state::{Portability, Question, Section};
 use state_index::keys::{block_key_end, byte_at};
 use state_index::{ahead, text_end, text_part};
-use state_layout::table_of;
+use state_layout::Manifest;
 
 // The revision under which question 31 is asked.
 pub const EXECUTION_ABI_REVISION: u32 = 2;
@@ -70,14 +70,13 @@ fn some_requires_target(s: &[u8], blocks: &[u32]) -> bool
 }
 
 // Question 31.
-#[tactic(auto, using(crate::proofs::Bounding::tag_unasked, crate::proofs::Bounding::tag_asked, state_layout::proofs::Indexed::laid_of))]
-fn tag_holds(s: &[u8], revision: u32, index: &[u32]) -> bool
-    requires { Tabled s.now index.now }
-    ensures { result ≡ tag_holds target_bound_classes revision (manifest_of s.now) }
+#[tactic(auto, using(crate::proofs::Bounding::tag_unasked, crate::proofs::Bounding::tag_asked))]
+fn tag_holds(m: Manifest, revision: u32) -> bool
+    ensures { result ≡ tag_holds target_bound_classes revision (manifest_of m.entry.s.now) }
 {
     let asked = revision == EXECUTION_ABI_REVISION;
-    let tagged = byte_at(s, 0) == Portability::TARGET_BOUND;
-    !asked || some_requires_target(s, table_of(s, index, Section::BLOCKS)) == tagged
+    let tagged = byte_at(m.s, 0) == Portability::TARGET_BOUND;
+    !asked || some_requires_target(m.s, m.table(Section::BLOCKS)) == tagged
 }
 
 // Question 32.
@@ -91,12 +90,12 @@ fn target_holds(s: &[u8]) -> bool
 }
 
 // Questions 31 and 32: yes, or the first that says no.
-#[tactic(auto, using(crate::proofs::Bounding::tag_no, crate::proofs::Bounding::target_no, crate::proofs::Bounding::both_yes))]
+#[tactic(auto, using(crate::proofs::Bounding::tag_no, crate::proofs::Bounding::target_no, crate::proofs::Bounding::both_yes, state_layout::proofs::Indexed::laid_of))]
 pub fn validate_portability(s: &[u8], revision: u32, index: &[u32]) -> Result<(), Question>
     requires { Tabled s.now index.now }
     ensures { result ≡ said (first (portability_holds target_bound_classes revision (manifest_of s.now))) }
 {
-    if !tag_holds(s, revision, index) {
+    if !tag_holds(Manifest { s, words: index }, revision) {
         return Err(Question(31));
     }
     if !target_holds(s) {

@@ -19,7 +19,7 @@ use state_index::keys::{block_key_end, byte_at, number_at};
 use state_index::{SortKey, ahead, key_part, words};
 use state_key_order::same_bytes;
 use state_layout::ends::block_kind_at;
-use state_layout::{room_start, table_of};
+use state_layout::{Manifest, room_start};
 use std::slice::Iter;
 
 // Is the block at a position stateful?
@@ -162,9 +162,10 @@ pub fn validate_slots(s: &[u8], index: &mut [u32]) -> Result<(), Question>
     ensures leaves { Leaves s.now index.old index.new }
 {
     let end = room_start(s, index);
-    let (tables, room) = index.split_at_mut(end);
-    let blocks = table_of(s, tables, Section::BLOCKS);
-    let slots = table_of(s, tables, Section::STATE_SLOTS);
+    let (words, room) = index.split_at_mut(end);
+    let m = Manifest { s, words };
+    let blocks = m.table(Section::BLOCKS);
+    let slots = m.table(Section::STATE_SLOTS);
     for_pairs(s, blocks, slots, key_answer)?;
     for_pairs(s, blocks, slots, slot_answer)?;
     if !slots_cover(s, slots, room) {

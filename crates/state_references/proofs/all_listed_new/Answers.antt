@@ -7,5 +7,5 @@ use Rattle.state_references.proofs.all_listed_new.Goals as goal
 pub returns-clause-marked : goal.returns-clause-marked
 returns-clause-marked g c = λ y.
     marks_front c.all_new.new.marks c.split_at_mut-marks.result.1.now
-    (omega (arith, c.all_new.auto.marks, c.split_at_mut-marks.ensures.front_len, ap length c.table_of.ensures))
-    (rw (c.keys_of-keys.ensures.0, c.keys_of-keys.ensures.1, c.table_of-2.ensures) at c.all_new.ensures.marked y)
+    (omega (arith, c.all_new.auto.marks, c.split_at_mut-marks.ensures.front_len, ap length c.table.ensures))
+    (rw (c.keys-keys.ensures.0, c.keys-keys.ensures.1, c.table-2.ensures) at c.all_new.ensures.marked y)

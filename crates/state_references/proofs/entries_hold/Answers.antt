@@ -9,5 +9,5 @@ use Rattle.state_references.proofs.entries_hold.Goals as goal
 pub returns : goal.returns
 returns g c =
     c.is_some.ensures
-    ∙ walked (g.test c.args.s.now (names_of c.args.s.now c.keys_of-known.result.words.now)) _ _ _ _ c.try_fold.ensures.ran (YieldsList-from_slice _ c.iter.ensures.rest) (λ a x o q k. search rules)
-    ∙ rw (c.keys_of-known.ensures.1, c.table_of.ensures, names-known c.requires.1.0)
+    ∙ walked (g.test c.args.m.s.now (names_of c.args.m.s.now c.keys-known.result.words.now)) _ _ _ _ c.try_fold.ensures.ran (YieldsList-from_slice _ c.iter.ensures.rest) (λ a x o q k. search rules)
+    ∙ rw (c.keys-known.ensures.1, c.table.ensures, names-known c.args.m.laid)
