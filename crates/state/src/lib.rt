@@ -8,7 +8,7 @@ use std::fmt;
 // The longest manifest, and the highest limit of a string.
 pub const MAX_SNAPSHOT_BYTES: usize = 67108864;
 
-// A question of document 01's list, by its number.
+// A question of document 01's list, by its number: a type, so that no other number passes for one, and a number, as C hands it on.
 #[derive(Clone, Copy, PartialEq, Eq)]
 pub struct Question(pub u8);
 
@@ -46,7 +46,7 @@ impl<P: fmt::Display> fmt::Display for Refusal<P> {
 // Where reading goes on.
 pub type Step = Result<usize, Refusal<usize>>;
 
-// A number that was read, and where reading goes on.
+// A number that was read, and where reading goes on. A tag is read as a byte, so its answer is written out.
 pub type Field = Result<(u64, usize), Refusal<usize>>;
 
 // The twelve section starts, counted from the manifest's first byte.
@@ -96,7 +96,7 @@ pub enum SideRefusal {
     Target(Refusal<u64>),
 }
 
-// The parts of a verdict.
+// The parts of a verdict. Here and below constants and no enum: document 01 has tags and section numbers as constants of their type.
 #[derive(Clone, Copy)]
 pub struct Part(pub u8);
 

@@ -29,7 +29,7 @@ pub fn precedes(left: &[u8], right: &[u8]) -> bool
     order::compare(left, right).order.is_lt()
 }
 
-// Whether two byte strings are the same.
+// Whether two byte strings are the same: order's `same`, with its answer as a value of format's definition, which order stands below.
 pub fn same_bytes(left: &[u8], right: &[u8]) -> bool
     ensures { result ≡ same left.now right.now }
 {
@@ -89,7 +89,7 @@ fn compare_keys<R: Fn(&[u8], usize) -> Step>(
     Ok(order::compare(part(left, at, e), part(right, from, f)))
 }
 
-// The block keys at two positions of lent bytes.
+// The block keys at two positions of lent bytes: four parameters, as C has them.
 pub fn compare_block_keys(left: &[u8], at: usize, right: &[u8], from: usize) -> KeysCompared
     ensures { result ≡ block_keys_compared left.now at right.now from }
 {

@@ -44,7 +44,8 @@ fn start_of(s: &[u8], index: &[u32], section: u8) -> usize
     w
 }
 
-// Where the room behind all tables begins. One past the last section: its table would begin where the room does.
+// Where the room behind all tables begins. One past the last section: its table would begin where the room does. Each call splits the index there
+// in its own body, since that the tables stay follows from the split alone (`leaves_split`).
 pub fn room_start(s: &[u8], index: &[u32]) -> usize
     requires { Laid s.now index.now }
     ensures { result ≡ room_start s.now }
@@ -69,7 +70,7 @@ impl<'a> Manifest<'a> {
         start_of(self.s, self.words, section)..start_of(self.s, self.words, section + 1)
     }
 
-    // The table of a section: the words that say where its entries start.
+    // The table of a section: the words that say where its entries start. Section numbers are bytes, as document 01 has them, so bounds are clauses.
     #[tactic(auto, using(crate::proofs::Indexed::start_next, crate::proofs::Indexed::start_there))]
     pub fn table(self, section: u8) -> &'a [u32]
         requires section_bound { section ≤ 12 }

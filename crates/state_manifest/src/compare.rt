@@ -144,7 +144,7 @@ fn compare_section(s: &[u8], t: &[u8], section: u8, mut at: Sides) -> Verdict
     }
 }
 
-// Where a section starts; the first words of an accepted manifest's index are its starts too.
+// Where a section starts; the first words of an accepted manifest's index are its starts too. Two crates read the word as well: no more is shared.
 pub(crate) fn section_start(starts: &[u32], section: u8) -> usize
     requires { (1 ≤ section) × (section ≤ length starts.now) }
     ensures { result ≡ get_or starts.now (section - 1) 0 }

@@ -1,4 +1,4 @@
-// Lists inside entries: a count, then the entries.
+// Counts, orders, and lists that keep no starts: a count, then the entries.
 #![tactic(auto, using(crate::proofs::Reading::reads))]
 
 ghost use Rattle.std.specs.Prelude.{◌≡◌, true, option_map};
@@ -16,7 +16,7 @@ use state::{Field, Question, Step};
 use state_key_order::{precedes, read_connector_key};
 use state_wire::{bounded_count, part, read_number, step_of, string};
 
-// A count whose entries have at least so many bytes each.
+// A count whose entries have at least so many bytes each. Of four bytes: that of a tail's words alone has eight.
 pub fn read_count(s: &[u8], at: usize, least: u64) -> Field
     ensures { result ≡ field_of (read_count 4 least s.now at) }
 {

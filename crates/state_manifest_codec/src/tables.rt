@@ -80,7 +80,7 @@ fn read_block_rest(s: &[u8], at: usize) -> Step
     read_connector_keys(s, o)
 }
 
-// A key that is a text.
+// A key that is a text. `string` promises `read_text`, and the walk asks for `scan`.
 #[tactic(auto, using(crate::proofs::Reading::reads))]
 fn path(s: &[u8], at: usize) -> Step
     ensures { result ≡ scan max_snapshot_bytes text s.now at }

@@ -14,7 +14,8 @@ use state_portability::validate_portability;
 use state_references::{validate_boundaries, validate_references};
 use state_slots::validate_slots;
 
-// Yes to all, or the first question that says no.
+// Yes to all, or the first question that says no. `Tabled` is a clause of each call: they are lent the index to write it, and a struct that keeps
+// the clause would have to hold at each write.
 #[tactic(auto, using(questions::proofs::Chains::in_order), unfolding(questions::specs::Order::first_failing, questions::specs::Order::answers))]
 pub fn validate_manifest(s: &[u8], revision: u32, index: &mut [u32]) -> Result<(), Question>
     requires { Tabled s.now index.old }

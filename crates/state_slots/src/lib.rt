@@ -105,7 +105,7 @@ fn slot_answer(s: &[u8], block: usize, slot: usize) -> Result<(), Question>
     Ok(())
 }
 
-// Puts the positions of the slots' offsets into as many words. With the slots by `zip` the proof did not close: nothing is known of what is
+// Puts the positions of the slots' offsets into as many words. That positions fit is a clause, here and below: no more of the manifest is lent. With the slots by `zip` the proof did not close: nothing is known of what is
 // written through an adapter of `iter_mut`.
 #[tactic(auto, using(crate::proofs::Offsets::gathering))]
 fn gather_offsets(s: &[u8], slots: &[u32], offsets: &mut [u32])

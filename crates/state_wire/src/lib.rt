@@ -1,4 +1,4 @@
-// Fields of the wire, read where they stand: little-endian numbers, tags, counts and strings.
+// Fields of the wire, read where they stand: little-endian numbers, tags, counts and strings. Slice and position are parameters (document 01).
 #![tactic(auto, using(crate::proofs::Fields::within), unfolding(crate::specs::Fields::read_span, crate::specs::Fields::read_number, crate::specs::Fields::read_tag, crate::specs::Fields::bounded_count, crate::specs::Fields::read_text))]
 
 ghost use Rattle.std.specs.Prelude.{◌≡◌, ◌+◌, ◌-◌, ◌≤◌, length, leb};
