@@ -105,8 +105,8 @@ fn slot_answer(s: &[u8], block: usize, slot: usize) -> Result<(), Question>
     Ok(())
 }
 
-// Puts the positions of the slots' offsets into as many words. That positions fit is a clause, here and below: no more of the manifest is lent. With the slots by `zip` the proof did not close: nothing is known of what is
-// written through an adapter of `iter_mut`.
+// Puts the positions of the slots' offsets into as many words. That positions fit is a clause, here and below: no more of the manifest is lent.
+// With the slots by `zip` the proof did not close: nothing is known of what is written through an adapter of `iter_mut`.
 #[tactic(auto, using(crate::proofs::Offsets::gathering))]
 fn gather_offsets(s: &[u8], slots: &[u32], offsets: &mut [u32])
     requires { (length slots.now ≡ length offsets.old) × (length s.now < 2 ^ 32) }
