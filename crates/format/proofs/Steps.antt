@@ -37,9 +37,6 @@ module _ (limit : ℕ) (s : List ℕ) (at : ℕ) where
   unfolding scan read
   tagged-stop k f e h i = i ∙ ap step_of_field h ∙ rw (value-refused (read_tag k s at) e h)
 
-  pub tagged-as : (k : ℕ) (f : ℕ → Fmt) {g : NumberRead} {r : Stepped} {t m : ℕ} (h : Fmt) → g ≡ field_of (read_tag k s at) → g ≡ Ok (t, m) → f t ≡ h → r ≡ scan limit h s m → r ≡ scan limit (tagged k f) s at
-  tagged-as k f {t = t} {m = m} h e i q j = tagged-on k f t e i refl (j ∙ sym (ap (λ (x : Fmt). scan limit x s m) q))
-
   -- the second of two
   pub tagged-second : (f : ℕ → Fmt) {g : NumberRead} {r : Stepped} {t m : ℕ} → g ≡ field_of (read_tag 2 s at) → g ≡ Ok (t, m) → (t ≡ 0 → ⊥) → r ≡ scan limit (f 1) s m → r ≡ scan limit (tagged 2 f) s at
   tagged-second f {t = t} e h n i = let b = tag_below 2 s at e h in let one : t ≡ 1 = omega (arith, n) in tagged-on 2 f 1 e h one i

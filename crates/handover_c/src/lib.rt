@@ -38,7 +38,7 @@ fn refused(refusal: Refusal<u64>, side: u64) -> (u32, [u64; 16])
     )
 }
 
-// No `From`, here and in the two functions below: an answer is C's two numbers and no type of its own.
+// No `From`, here and in the two functions below: neither `Result` nor C's pair is a type of this crate, as an impl would need.
 fn decoded_answer(decoded: Decoded) -> (u32, [u64; 16])
     ensures { (result.0 ≡ decoded_code decoded) × (result.1 ≡ decoded_words decoded) }
 {

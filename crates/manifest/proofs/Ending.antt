@@ -1,15 +1,13 @@
--- How a call ends: the starts in a record, and what clearing leaves.
-use Prim.Native.Nat.{ℕ, zero, suc, ◌-◌, ◌≤◌, ◌<◌}
+-- How a call ends: the starts in a record, and the answer and the index.
+use Prim.Native.Nat.{ℕ, zero, suc, ◌-◌, ◌≤◌}
 use native.Mathlib.Omega.{arith}
-use native.Mathlib.Nat.{sub-zero}
 use mathlib.Core.Path.{◌≡◌, refl, ap, ◌∙◌}
 use mathlib.Core.Bool.{Bool, true, false, cond}
-use mathlib.Core.List.{List, [], ◌∷◌, ◌++◌, append-nil}
-use lib.ListN.{length, get_or, take, drop, replicate}
-use lib.Seq.{drop-length}
+use mathlib.Core.List.{List, [], ◌∷◌, ◌++◌}
+use lib.ListN.{length, get_or, take, replicate}
 use lib.Dec.{eqb}
-use borrow.Author.Tests.{le-leb, lt-leb, eq-eqb, ne_eqb, eqb-true}
-use Rattle.state.specs.Outcome.{refused, offset_of, refusal, Stepped}
+use borrow.Author.Tests.{eqb-true}
+use Rattle.state.specs.Outcome.{refused, refusal, Stepped}
 use Rattle.std.specs.Prelude.{Ok, Err}
 use Rattle.state.specs.declared.Refusal.{Refusal}
 use Rattle.state.specs.declared.Starts.{Starts}
@@ -17,7 +15,7 @@ use Rattle.state.proofs.Outcome.{step-refused, step-yields, always}
 use Rattle.state_wire.specs.Fields.{max_snapshot_bytes}
 use Rattle.format.specs.Places.{manifest_starts}
 use Rattle.questions.specs.Portability.{target_bound_classes}
-use Rattle.questions.specs.Answers.{judge, offset_at, outside, starts_of, decode_manifest, decoded_index}
+use Rattle.questions.specs.Answers.{judge, outside, starts_of, decode_manifest, decoded_index}
 use Rattle.manifest.specs.Judges.{Judges}
 use Rattle.manifest.proofs.Judging.{tabled-starts}
 
@@ -30,23 +28,6 @@ pub firsts-take : (n : ℕ) (l : List ℕ) → n ≤ length l → firsts n (λ i
 firsts-take zero l h = refl
 firsts-take (suc n) [] h = absurd (omega arith)
 firsts-take (suc n) (x ∷ l) h = ap (λ r. x ∷ r) (firsts-take n l (omega arith))
-
--- ---- the offset
-pub offset-first : (base q p : ℕ) → q ≤ 2 → 0 ≡ offset_at base q p
-offset-first base q p h = rw (le-leb q 2 h)
-
-pub offset-later : (base q p : ℕ) → 2 < q → {r : ℕ} → r ≡ offset_of base p → r ≡ offset_at base q p
-offset-later base q p h e = rw (lt-leb q 2 h) e
-
--- ---- clearing all words, or all but the first
-pub cleared-behind : (old : List ℕ) (a : ℕ) {new : List ℕ} → new ≡ take a old ++ (replicate (length old - a) 0 ++ drop (length old) old) → new ≡ take a old ++ replicate (length old - a) 0
-cleared-behind old a e = e ∙ rw (drop-length old, append-nil {A = ℕ} (replicate (length old - a) 0))
-
-pub cleared-all : (old : List ℕ) (q : ℕ) → (q ≡ 2 → ⊥) → {new : List ℕ} → new ≡ take 0 old ++ (replicate (length old - 0) 0 ++ drop (length old) old) → new ≡ cond (eqb q 2) old (replicate (length old) 0)
-cleared-all old q h e = rw (ne_eqb q 2 h) (cleared-behind old 0 e ∙ ap (λ (n : ℕ). replicate n 0) (sub-zero (length old)))
-
-pub left_alone : (old : List ℕ) (q : ℕ) → q ≡ 2 → old ≡ cond (eqb q 2) old (replicate (length old) 0)
-left_alone old q e = rw (eq-eqb q 2 e)
 
 -- ---- the answer and the index at the end of a call
 module _ {s old mid : List ℕ} {revision : ℕ} {r : Stepped} (j : Judges s revision r old mid) where

@@ -6,20 +6,20 @@ ghost use Rattle.questions.specs.Portability.{target_bound_classes};
 ghost use Rattle.questions.specs.Answers.{offset_at, outside, starts_of, decode_manifest, decoded_index};
 ghost use Rattle.manifest.specs.Judges.{Judges};
 
-use state::{Decoded, Refusal, Starts, Step};
+use state::{Decoded, Question, Refusal, Starts, Step};
 use state_manifest_codec::read_manifest;
 use state_manifest_validation::validate_manifest;
 use state_wire::offset;
 
 // The second and last question about lengths alone, the one about the index's. By document 01 refusals 1 and 2 stand at offset 0,
 // and after 2 the index is untouched.
-const INDEX_LENGTH: u8 = 2;
+pub const INDEX_LENGTH: Question = Question(2);
 
 // Where a refusal stands outside: questions 1 and 2 at 0, the others from the base on.
 fn offset_at(base: u64, refusal: Refusal<usize>) -> u64
     ensures { result ≡ offset_at base refusal.question.0 refusal.at }
 {
-    if refusal.question.0 <= INDEX_LENGTH {
+    if refusal.question.0 <= INDEX_LENGTH.0 {
         0
     } else {
         offset(base, refusal.at)
@@ -41,7 +41,7 @@ pub fn refused(base: u64, refusal: Refusal<usize>, index: &mut [u32]) -> Refusal
     ensures value { result ≡ outside base refusal }
     ensures index_after { index.new ≡ cond (eqb refusal.question.0 2) index.old (replicate (length index.old) 0) }
 {
-    if refusal.question.0 != INDEX_LENGTH {
+    if refusal.question != INDEX_LENGTH {
         index.fill(0);
     }
     refusal.question.at(offset_at(base, refusal))

@@ -1,16 +1,19 @@
--- What the code cites: how far a search for a difference came, and the answer of `compare` at the first one.
+-- What the code cites: the answer of `same` where all that is left agrees, and that of `compare` at the first difference.
 -- Assumes nothing.
 use Prim.Native.Nat.{ℕ, zero, suc, ◌+◌, ◌-◌, min, ◌≤◌, ◌<◌}
 use mathlib.Core.List.{List, ◌++◌}
-use mathlib.Core.Path.{◌≡◌}
+use mathlib.Core.Path.{◌≡◌, refl, sym, ap, ◌∙◌}
 use native.Mathlib.Nat.{add-zero}
 use native.Mathlib.Omega.{arith}
 use lib.ListN.{length, take, drop, get_or, take-append-drop, drop_of_length-le}
+use mathlib.Core.Bool.{false≢true}
 use Rattle.std.proofs.lemmas.List.{take_more_same}
-use lib.Seq.{drop-cons, length-take-le}
+use Rattle.std.proofs.lemmas.List.FromFn.{get_or-range_with_len, length-range_with_len}
+use lib.Seq.{drop-cons, length-take-le, take-length}
 use Rattle.std.specs.declared.cmp.Ordering.{Ordering}
 use Rattle.std.specs.declared.cmp.Ordering.TheVariants.{Less, Equal, Greater}
-use Rattle.std.specs.Prelude.{Option, None, Some, MatchOption}
+use Rattle.std.specs.Prelude.{Bool, true, false, MatchBool, HoldsAt}
+use Rattle.std.specs.List.{AllWithin, range_with_len}
 use Rattle.std.specs.Ordering.{nat_cmp, MatchOrdering}
 use Rattle.std.proofs.lemmas.Cmp.{ranked}
 use Rattle.order.specs.Lex.{compared}
@@ -46,12 +49,25 @@ module _ (a b : List ℕ) (n m : ℕ) (i : n ≤ m) (h : m ≤ length a) (k : m 
       let r : n + (m - n) ≡ m = omega arith in
       rw r at (front-on a b (m - n) n (omega arith) (omega arith) e (λ j p l. f j p (omega arith)))
 
--- .. as far as a search came
-pub searched : (a b : List ℕ) (n m : ℕ) → (n ≤ m) × (m ≤ length a) × (m ≤ length b) × (take n a ≡ take n b) → (r : Option ℕ)
-    → MatchOption r ((j : ℕ) → n ≤ j → j < m → get_or a j 0 ≡ get_or b j 0) (λ k. (n ≤ k) × (k < m) × (get_or a k 0 ≡ get_or b k 0 → ⊥) × ((j : ℕ) → n ≤ j → j < k → get_or a j 0 ≡ get_or b j 0))
-    → MatchOption r (take m a ≡ take m b) (λ k. (k < m) × (take k a ≡ take k b) × (get_or a k 0 ≡ get_or b k 0 → ⊥))
-searched a b n m h None f = front-to a b n m h.0 h.1 h.2 h.3 f
-searched a b n m h (Some k) f = (f.1, front-to a b n k f.0 (omega arith) (omega arith) h.3 f.3, f.2)
+-- .. to the ends of both, where all numbers between pass the test that `same` makes
+module _ (a b : List ℕ) (n : ℕ) (i : n ≤ length a) (k : length b ≡ length a) (e : take n a ≡ take n b) where
+  abbrev between : List ℕ
+  between = range_with_len n (length a - n)
+
+  abbrev Agree : ℕ → Type 0
+  Agree j = get_or a j 0 ≡ get_or b j 0
+
+  agreed : AllWithin Agree between 0 (length between) → a ≡ b
+  agreed f = sym (take-length a) ∙ front-to a b n (length a) i (omega arith) (omega (arith, k)) e at-each ∙ (rw k at (take-length b))
+    where
+      at-each : (j : ℕ) → n ≤ j → j < length a → Agree j
+      at-each j h l =
+          let p : n + (j - n) ≡ j = omega arith in
+          rw (get_or-range_with_len n (length a - n) (j - n) 0 (omega arith), p) at (f (j - n) 0 (omega arith) (omega (arith, length-range_with_len n (length a - n))))
+
+  pub same-behind : (r : Bool) → MatchBool r (AllWithin Agree between 0 (length between)) ((j : ℕ) × (j < length between) × HoldsAt (λ x. Agree x → ⊥) between j) → (r ≡ true → a ≡ b) × (a ≡ b → r ≡ true)
+  same-behind true f = ((λ _. agreed f), λ _. refl)
+  same-behind false f = ((λ q. absurd (false≢true q)), λ q. absurd (f.2 0 (ap (λ x. get_or x (get_or between f.0 0) 0) q)))
 
 module _ (a b : List ℕ) (n : ℕ) where
   -- .. the order of two bytes that differ, or of the lengths where one list ends

@@ -82,10 +82,6 @@ pub said-no : (n : ℕ) {d : Question} → said n ≡ Err d → (n ≡ d.0) × (
 said-no zero e = cc
 said-no (suc n) {d = d} e = let i : record { 0 = suc n } ≡ d = cc in (ap (λ (x : Question). x.0) i, λ z. absurd (omega arith))
 
-pub says-said : (n : ℕ) → (n ≡ 0 → ⊥) → Err (record { 0 = n }) ≡ said n
-says-said zero h = absurd (h refl)
-says-said (suc n) h = refl
-
 -- what code answered of one in front of others
 module _ (n : ℕ) {r : Result Unit Question} (is : r ≡ said n) where
   pub answered-none : {u : Unit} → r ≡ Ok u → n ≡ 0

@@ -14,6 +14,7 @@
 
 ghost use Rattle.std.specs.Prelude.{◌≤◌};
 
+use manifest::INDEX_LENGTH;
 use replay_lines::{bytes, number, words};
 use state::{Decoded, Question, SideRefusal, Verdict};
 use std::io;
@@ -30,9 +31,6 @@ const WORDS: usize = 512;
 
 // What stands in each word of the index before a call.
 const FILL: u32 = 0xa5a5a5a5;
-
-// The question whether the index is long enough, which manifest names for itself: its refusal alone leaves the index untouched.
-const INDEX_LENGTH: Question = Question(2);
 
 // Room for the bytes of one manifest and for its index.
 #[derive(Drop)]

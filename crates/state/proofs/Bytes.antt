@@ -6,7 +6,7 @@ use native.Mathlib.Nat.{add-sub_cancel_left, pow-suc, sub_self, sub-zero, zero-s
 use mathlib.Core.Path.{◌≡◌, refl, sym, ap, ◌∙◌}
 use mathlib.Core.List.{List, [], ◌∷◌, ◌++◌}
 use lib.ListN.{length, get_or, take, drop, length-append, length-drop, drop_of_length-le}
-use lib.Seq.{take_all, take-add, take-take, drop-drop, take-nil, drop-cons, length-take-le, take-append_seam, drop-append_seam}
+use lib.Seq.{take-add, take-take, drop-drop, take-nil, drop-cons, length-take-le, take-append_seam, drop-append_seam}
 use Rattle.state.specs.Bytes.{AreBytes, span, number_of, bytes_of}
 
 -- x stands in s from a up to b
@@ -56,16 +56,9 @@ span-cons s a b h k =
 pub span-nil : (s : List ℕ) (a : ℕ) → span s a a ≡ []
 span-nil s a = rw (sub_self a)
 
--- no bytes: where the end does not lie after the start, or the start not before the list's end
-pub span_none : (s : List ℕ) (a b : ℕ) → b ≤ a → [] ≡ span s a b
-span_none s a b h = let e : b - a ≡ 0 = omega arith in sym (rw e)
-
+-- no bytes where the start does not lie before the list's end
 pub span-past : (s : List ℕ) (a b : ℕ) → length s ≤ a → [] ≡ span s a b
 span-past s a b h = sym (rw (drop_of_length-le s h, take-nil))
-
--- an end past the list's counts as that
-pub span-end : (s : List ℕ) (a b : ℕ) → length s ≤ b → span s a (length s) ≡ span s a b
-span-end s a b h = take_all (length s - a) (drop a s) (simp length-drop (omega arith)) ∙ sym (take_all (b - a) (drop a s) (simp length-drop (omega arith)))
 
 -- the number in the bytes from a up to b: its lowest byte, and the number in the rest; one part of them, and the rest
 pub number-cons : (s : List ℕ) (a next b : ℕ) → a + 1 ≡ next → next ≤ b → b ≤ length s → number_of (span s a b) ≡ get_or s a 0 + 256 * number_of (span s next b)

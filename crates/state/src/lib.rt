@@ -96,7 +96,7 @@ pub enum SideRefusal {
     Target(Refusal<u64>),
 }
 
-// The parts of a verdict. Here and below constants and no enum: document 01 has tags and section numbers as constants of their type.
+// The parts of a verdict: numbers, since document 01 and C's answers have them as such. Below, document 01 asks for constants of their type.
 #[derive(Clone, Copy)]
 pub struct Part(pub u8);
 

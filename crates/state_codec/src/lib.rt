@@ -17,7 +17,7 @@ use manifest::{accepted, judge, refused};
 use state::{Decoded, MAX_SNAPSHOT_BYTES, Question, Section, Step};
 use state_index::word_at;
 use state_manifest::state_words;
-use state_wire::{bounded_count, offset, read_number, step_of};
+use state_wire::{offset, read_count, read_number, step_of};
 use values::{read_values, validate_values};
 
 // The word count and the words, and question 37. The words are passed over: the count was held against what is left.
@@ -25,11 +25,7 @@ use values::{read_values, validate_values};
 fn read_words(t: &[u8], at: usize, total: u64) -> Step
     ensures { result ≡ step_of (read_words total t.now at) }
 {
-    let number = read_number::<8>(t, at);
-    let Ok((n, next)) = number else {
-        return step_of(number);
-    };
-    let count = bounded_count(t, next, n, 8);
+    let count = read_count::<8>(t, at, 8);
     let Ok((words, first)) = count else {
         return step_of(count);
     };

@@ -91,16 +91,10 @@ pub record BlocksLeft (s classes words : List ℕ) (i : ℕ) : Type 0 where
   pub well : All (Well limit (entry blocks) s) (drop i words)
   pub is : answers s classes (drop i words) ≡ answers s classes words
 
-pub blocks_start : (s classes words : List ℕ) → All (Well limit (entry blocks) s) words → BlocksLeft s classes words 0
-blocks_start s classes words w = record { well = w; is = refl }
-
 module _ {s classes words : List ℕ} {i : ℕ} (h : BlocksLeft s classes words i) where
   module _ (l : i < length words) where
     parted : drop i words ≡ get_or words i 0 ∷ drop (i + 1) words
     parted = rw (add-one i, drop-cons words i 0 l)
-
-    pub block-well : Well limit (entry blocks) s (get_or words i 0)
-    block-well = (rw parted at h.well).0
 
     module _ {r : Result Unit Question} (j : r ≡ said (block_answer (classes_of s classes) (value_at (entry blocks) s (get_or words i 0)))) where
       pub blocks-next : r ≡ Ok tt → BlocksLeft s classes words (i + 1)

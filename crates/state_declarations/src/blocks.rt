@@ -14,7 +14,7 @@ ghost use Rattle.state_declarations.specs.Each.{each_in, Asked, inputs_at, outpu
 
 use state::{BlockKind, Question, WireDir};
 use state_index::keys::{block_key_end, byte_at, connector_key_end, count_at, number_at};
-use state_index::{ahead, text_end};
+use state_index::{ahead, position, text_end};
 use state_key_order::same_bytes;
 use state_layout::ends::{
     block_kind_at, connector_keys_end, parameter_end, parameters_at, parameters_end,
@@ -148,8 +148,7 @@ pub(crate) fn blocks_answer(classes: Classes, blocks: &[u32]) -> Result<(), Ques
     ensures { result ≡ said (first (map (block_answer (classes_of classes.entry.s.now classes.entry.words.now)) (map (value_at (entry block_entries) classes.entry.s.now) blocks.now))) }
 {
     for word in blocks {
-        // A word is a position: `as`, since usize has no From<u32>.
-        block_answer(classes, *word as usize)?;
+        block_answer(classes, position(*word))?;
     }
     Ok(())
 }

@@ -16,7 +16,7 @@ use blocks::blocks_answer;
 use sets::{classes_are, ports_are};
 use state::{Question, Section};
 use state_index::keys::count_at;
-use state_index::text_end;
+use state_index::{position, text_end};
 use state_layout::keys::{Classes, Connectors};
 use state_layout::{Manifest, room_start};
 
@@ -26,8 +26,7 @@ fn members_there(s: &[u8], classes: &[u32]) -> bool
 {
     classes
         .iter()
-        // A word is a position: `as`, since usize has no From<u32>.
-        .all(|word| count_at(s, text_end(s, *word as usize)) != 0)
+        .all(|word| count_at(s, text_end(s, position(*word))) != 0)
 }
 
 // Questions 11 to 16, or the first that says no.

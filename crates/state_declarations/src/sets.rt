@@ -12,7 +12,7 @@ ghost use Rattle.state_declarations.specs.Each.{names_in, MarksEach, Naming, Lis
 
 use state::WireValueType;
 use state_index::keys::{byte_at, connector_key_end, count_at};
-use state_index::{ahead, text_end, text_part};
+use state_index::{ahead, position, text_end, text_part};
 use state_layout::ends::{
     connector_keys_end, connector_type_at, parameter_end, parameters_at, parameters_end,
 };
@@ -20,7 +20,7 @@ use state_layout::keys::{Classes, Connectors, all_marked};
 use state_wire::part;
 
 // Marks what the entry at each word names: a step is given the place to try first, and gives the one to try next.
-// Marks stay a slice beside the keys: they are written while the keys are shared, and a struct of both would be borrowed whole at each step.
+// Marks stay a slice beside the keys: a struct of both would be lent by `&mut`, to be taken apart at each step.
 // Not `try_fold`: tried, and that its closure leaves the borrowed marks as long as they were did not prove.
 fn mark_each<K: Copy, F: Fn(K, &mut [u32], usize, usize) -> Option<usize>>(
     keys: K,
@@ -36,8 +36,7 @@ fn mark_each<K: Copy, F: Fn(K, &mut [u32], usize, usize) -> Option<usize>>(
 {
     let mut next = 0;
     for word in words {
-        // A word is a position: `as`, since usize has no From<u32>.
-        next = mark_entry(keys, marks, *word as usize, next)?;
+        next = mark_entry(keys, marks, position(*word), next)?;
     }
     Some(next)
 }
@@ -97,7 +96,7 @@ fn mark_key(
     Some(i + 1)
 }
 
-// Marks the connectors that the list of keys at a position names.
+// Marks the connectors that the list of keys at a position names: one call, as `mark_parameters` is, of other keys, list and entries.
 #[tactic(auto, unfolding(crate::specs::Each::keys_named))]
 fn mark_keys(connectors: Connectors, marks: &mut [u32], at: usize, hint: usize) -> Option<usize>
     requires { length marks.old ≡ length connectors.words.now }

@@ -17,7 +17,7 @@ use keys::{block_key_end, connector_key_end, count_at};
 use state::Section;
 use state_wire::{part, remaining};
 
-// What positions are sorted by. Two kinds, so that the sort and its law are one.
+// What positions are sorted by. Two kinds, of which one law says that they order: a closure's order would be asked of each caller.
 #[derive(Clone, Copy, PartialEq, Eq)]
 pub enum SortKey {
     // The text of the string there.
@@ -68,8 +68,8 @@ pub fn key_end(s: &[u8], section: u8, at: usize) -> usize
     }
 }
 
-// The bytes that this key is ranked by. The section is a number, which serves callers with a constant and without one; inlined, since
-// else a look-up among connectors, whose section is a constant, makes the match at each turn.
+// The bytes that this key is ranked by. The section is a number, as `key_end` and the hints of a table have it; inlined, since else a look-up
+// among connectors, whose section is a constant, makes the match at each turn.
 #[inline]
 pub fn key_part(s: &[u8], section: u8, at: usize) -> &[u8]
     ensures { result.now ≡ key_at (numbered section) s.now at }
@@ -80,8 +80,8 @@ pub fn key_part(s: &[u8], section: u8, at: usize) -> &[u8]
     }
 }
 
-// Where the entry that a word stands for starts. A cast: `usize` has no `From<u32>`.
-pub(crate) fn position(word: u32) -> usize
+// Where the entry that a word stands for starts. A cast, as std has no `From` for it.
+pub fn position(word: u32) -> usize
     ensures { result ≡ word }
 {
     word as usize

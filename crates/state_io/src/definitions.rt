@@ -12,7 +12,7 @@ ghost use Rattle.state_io.specs.Paths.{definition_at, answer_among, Sought};
 use state::{Question, Section, WireValueType};
 use state_index::keys::byte_at;
 use state_index::words::find;
-use state_index::{ahead, text_end, text_part, word_at};
+use state_index::{ahead, position, text_end, text_part, word_at};
 use state_layout::ends::{bound_end, type_at, type_end};
 use state_layout::keys::{Classes, validate_value_enum};
 use state_layout::same_type;
@@ -73,7 +73,6 @@ pub(crate) fn definitions_answer(
     ensures { result ≡ said (first (map (λ p. answer_among classes.entry.s.now (classes_of classes.entry.s.now classes.entry.words.now) paths.now (definition_at classes.entry.s.now p)) definitions.now)) }
 {
     definitions.iter().enumerate().try_for_each(|(hint, at)| {
-        // A word is a position: `as`, since usize has no From<u32>.
-        definition_answer(classes, paths, *at as usize, hint)
+        definition_answer(classes, paths, position(*at), hint)
     })
 }

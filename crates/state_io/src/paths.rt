@@ -13,14 +13,14 @@ ghost use Rattle.state_io.specs.Paths.{chosen, external_paths, another, count_ag
 use state::Section;
 use state_index::keys::connector_key_end;
 use state_index::words::sort;
-use state_index::{SortKey, key_part, text_part, word_at};
+use state_index::{SortKey, key_part, position, text_part, word_at};
 use state_key_order::same_bytes;
 use state_layout::ends::type_at;
 use state_layout::keys::Connectors;
 use state_layout::same_type;
 
 // Marks the connectors that external inputs name. The one behind that which was found is the next to try.
-// No answer is wanted here: that all are known was asked by 25.
+// No answer is wanted here: that all are known was asked by 25. A `for`: of marks that a closure changes nothing is known behind it.
 fn mark_inputs(connectors: Connectors, inputs: &[u32], marks: &mut [u32])
     requires { length marks.old ≡ length connectors.words.now }
     ensures { marks.new ≡ marks_of (keys_of manifest.external_inputs connectors.entry.s.now inputs.now) (keys_of manifest.connectors connectors.entry.s.now connectors.entry.words.now) }
@@ -28,8 +28,7 @@ fn mark_inputs(connectors: Connectors, inputs: &[u32], marks: &mut [u32])
     marks.fill(0);
     let mut hint = 0;
     for input in inputs {
-        // A word is a position: `as`, since usize has no From<u32>.
-        let key = key_part(connectors.s, Section::EXTERNAL_INPUTS, *input as usize);
+        let key = key_part(connectors.s, Section::EXTERNAL_INPUTS, position(*input));
         if let Some(i) = connectors.mark(marks, key, hint) {
             hint = i + 1;
         }
@@ -49,7 +48,7 @@ fn put_paths(connectors: Connectors, marks: &[u32], paths: &mut [u32]) -> usize
         let is_marked = *mark != 0;
         if is_marked {
             // A position fits in 32 bits, as asked.
-            paths[count] = connector_key_end(connectors.s, *connector as usize) as u32;
+            paths[count] = connector_key_end(connectors.s, position(*connector)) as u32;
             count += 1;
         }
     }

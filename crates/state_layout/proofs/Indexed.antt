@@ -193,13 +193,6 @@ leaves_split {s} {old} r t l =
 pub room_behind : {s index : List ℕ} → Tabled s index → room_end s ≤ room_start s + length (drop (room_start s) index)
 room_behind {s} {index} t = omega (arith, length-drop (room_start s) index, room t)
 
--- ---- the tables stay
-pub leaves_all : {s index : List ℕ} → Tabled s index → Leaves s index index
-leaves_all t = record { tabled = t; long = refl }
-
-pub leaves-then : {s a b c : List ℕ} → Leaves s a b → Leaves s b c → Leaves s a c
-leaves-then h k = record { tabled = k.tabled; long = k.long ∙ h.long }
-
 -- ---- how far the tables reach
 sum-next : (ns : List ℕ) (i : ℕ) → sum (take (suc i) ns) ≡ sum (take i ns) + get_or ns i 0
 unfolding sum

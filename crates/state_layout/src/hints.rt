@@ -2,8 +2,8 @@
 ghost use Rattle.std.specs.Prelude.{◌≡◌, IfSome, ◌+◌, ◌*◌, ◌-◌, ◌^◌, ◌≤◌, ◌<◌, length};
 
 use super::Manifest;
-use state_index::key_part;
 use state_index::words::hints_of;
+use state_index::{key_part, position};
 use std::ops::Range;
 
 // How many hints there are for each word of a table.
@@ -23,7 +23,7 @@ fn put_all(s: &[u8], section: u8, words: &[u32], hints: &mut [u32])
 {
     hints.fill(0);
     for (i, word) in words.iter().enumerate() {
-        let first = hints_of(hints, key_part(s, section, *word as usize));
+        let first = hints_of(hints, key_part(s, section, position(*word)));
         put_hint(&mut hints[first..first + 4], i as u32 + 1);
     }
 }

@@ -95,20 +95,8 @@ skips (early plain) p = refl
 skips (late wire) p = sym (add-zero p)
 skips (late plain) p = refl
 
-skip-four : (u : Rule) → from u 0 ≤ 4
-skip-four free = omega arith
-skip-four (distinct wire) = omega arith
-skip-four (distinct plain) = omega arith
-skip-four (early wire) = omega arith
-skip-four (early plain) = omega arith
-skip-four (late wire) = omega arith
-skip-four (late plain) = omega arith
-
 -- of any section whose layout it is
 module _ (e : Section) {layout : Layout} (l : layout ≡ layout_of e) where
-  pub skip-small : layout.skip ≤ 4
-  skip-small = rw l (skip-four e.rule)
-
   asks : layout.asked ≡ asked_by e.rule
   asks = ap (λ (x : Layout). x.asked) l
 

@@ -1,4 +1,4 @@
--- What a reader that goes on by `?` answers: a format's reading as an equation, step by step.
+-- What a reading answers: a format's reading as an equation, step by step.
 use Prim.Native.Nat.{ℕ, ◌-◌, ◌≤◌, ◌<◌}
 use native.Mathlib.Omega.{arith}
 use mathlib.Core.Path.{◌≡◌, refl, sym, ap}

@@ -17,7 +17,7 @@ use Rattle.format.specs.Manifest.{manifest}
 use Rattle.format.specs.Places.{manifest_starts, manifest_entries}
 use Rattle.format.specs.Reading.{index_words, read_sections, read_manifest}
 use Rattle.format.proofs.Refusals.{Late, late-read, late-question}
-use Rattle.state_manifest_codec.specs.Tables.{Room, Fills}
+use Rattle.state_manifest_codec.specs.Tables.{Fills}
 use Rattle.state_manifest_codec.specs.Reads.{Reads}
 
 module _ (s old : List ℕ) where
@@ -36,9 +36,6 @@ module _ (s old : List ℕ) where
     module _ (fits : index_words (length s) ≤ length old) where
       pub words-lent : length (take (index_words (length s)) old) ≡ index_words (length s)
       words-lent = length-take-le (index_words (length s)) old fits
-
-      pub sections-room : Room s (take (index_words (length s)) old) 0 12
-      sections-room = record { short = sized; here = omega arith; used = omega arith; there = omega (arith, words-lent) }
 
       asks : step_of (read_manifest max_snapshot_bytes s (length old)) ≡ step_of (read_sections max_snapshot_bytes s)
       unfolding read_manifest

@@ -1,9 +1,8 @@
-// Counts, orders, and lists that keep no starts: a count, then the entries.
+// Orders, and lists that keep no starts: a count, then the entries.
 #![tactic(auto, using(crate::proofs::Reading::reads))]
 
 ghost use Rattle.std.specs.Prelude.{◌≡◌, true, option_map};
-ghost use Rattle.state.specs.Outcome.{field_of};
-ghost use Rattle.state_wire.specs.Fields.{read_count, max_snapshot_bytes};
+ghost use Rattle.state_wire.specs.Fields.{max_snapshot_bytes};
 ghost use Rattle.format.specs.Format.{above, scan};
 ghost use Rattle.format.specs.Manifest.{Section, counted, params, connector_keys};
 ghost use Rattle.state_manifest_codec.specs.Tables.{prior};
@@ -12,20 +11,9 @@ ghost use Rattle.state_manifest_codec.specs.Readers.{ReadsAs};
 
 use crate::layouts::Asked;
 use crate::values::read_value;
-use state::{Field, Question, Step};
+use state::{Question, Step};
 use state_key_order::{precedes, read_connector_key};
-use state_wire::{bounded_count, part, read_number, step_of, string};
-
-// A count whose entries have at least so many bytes each. Of four bytes: that of a tail's words alone has eight.
-pub fn read_count(s: &[u8], at: usize, least: u64) -> Field
-    ensures { result ≡ field_of (read_count 4 least s.now at) }
-{
-    let count = read_number::<4>(s, at);
-    let Ok((n, next)) = count else {
-        return count;
-    };
-    bounded_count(s, next, n, least)
-}
+use state_wire::{part, read_count, step_of, string};
 
 // Question 9: whether a key is above the one before it, if there is one.
 pub fn key_above(last: Option<&[u8]>, key: &[u8]) -> bool
@@ -59,7 +47,7 @@ pub fn read_ascending<K: Fn(&[u8], usize) -> Step, R: Fn(&[u8], usize) -> Step>(
     requires rest { ReadsAs (R.post read_rest s) e.rest s.now }
     ensures { result ≡ scan max_snapshot_bytes (counted e) s.now at }
 {
-    let count = read_count(s, at, least);
+    let count = read_count::<4>(s, at, least);
     let Ok((n, first)) = count else {
         return step_of(count);
     };
@@ -97,7 +85,7 @@ pub fn read_parameters(s: &[u8], at: usize) -> Step
 pub fn read_connector_keys(s: &[u8], at: usize) -> Step
     ensures { result ≡ scan max_snapshot_bytes connector_keys s.now at }
 {
-    let count = read_count(s, at, 10);
+    let count = read_count::<4>(s, at, 10);
     let Ok((n, first)) = count else {
         return step_of(count);
     };

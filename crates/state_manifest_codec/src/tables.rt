@@ -12,11 +12,11 @@ use crate::entries::{
     read_block_head, read_connection, read_connector_rest, read_input_rest, read_slot_rest,
 };
 use crate::layouts::{Asked, layout_of};
-use crate::lists::{in_order, read_connector_keys, read_count, read_parameters};
+use crate::lists::{in_order, read_connector_keys, read_parameters};
 use state::{Question, Section, Step};
 use state_index::words::all_distinct;
 use state_key_order::{read_block_key, read_connector_key};
-use state_wire::{part, step_of, string};
+use state_wire::{part, read_count, step_of, string};
 
 // The texts of a class's members, as many as `names` has words for where they start.
 fn read_names(s: &[u8], at: usize, names: &mut [u32]) -> Step
@@ -37,13 +37,13 @@ fn read_names(s: &[u8], at: usize, names: &mut [u32]) -> Step
     Ok(p)
 }
 
-// A class's members, all different.
+// A class's members, all different. `Space` stays a clause, here and below: it is of the words behind each entry, another slice each time.
 #[tactic(auto, using(crate::proofs::Reading::reads), unfolding(format::specs::Manifest::members))]
 fn read_members(s: &[u8], at: usize, scratch: &mut [u32]) -> Step
     requires { Space s.now scratch.old at }
     ensures { result ≡ scan max_snapshot_bytes members s.now at }
 {
-    let count = read_count(s, at, 4);
+    let count = read_count::<4>(s, at, 4);
     let Ok((n, first)) = count else {
         return step_of(count);
     };
@@ -97,8 +97,8 @@ fn nothing(_s: &[u8], at: usize) -> Step
 }
 
 // A section by the readers of a key and of the rest of an entry: where the entries start goes into the first words of the index, and
-// those behind are scratch. It stands beside `read_ascending`, whose callers keep no starts and have no index: one walk for both
-// would ask at each entry whether to keep one.
+// those behind are scratch. It stands beside `read_ascending`, whose callers keep no starts and have no index: one walk for both would take
+// one more closure, which keeps a start or does nothing, and say of it what it does.
 fn walk_with<K: Fn(&[u8], usize) -> Step, R: Fn(&[u8], usize, &mut [u32]) -> Step>(
     s: &[u8],
     section: u8,
@@ -115,7 +115,7 @@ fn walk_with<K: Fn(&[u8], usize) -> Step, R: Fn(&[u8], usize, &mut [u32]) -> Ste
     ensures { Lists result (scan max_snapshot_bytes (counted (numbered section)) s.now at) (starts max_snapshot_bytes (entry (numbered section)) s.now (count_at s.now at) (at + 4)) index.new }
 {
     let layout = layout_of(section);
-    let count = read_count(s, at, layout.least);
+    let count = read_count::<4>(s, at, layout.least);
     let Ok((n, first)) = count else {
         return step_of(count);
     };
@@ -145,7 +145,7 @@ fn walk_with<K: Fn(&[u8], usize) -> Step, R: Fn(&[u8], usize, &mut [u32]) -> Ste
     Ok(p)
 }
 
-// The same where no rest needs scratch.
+// The same where no rest needs scratch. It says the clauses of `walk_with` again; without it each of its callers would write the closure.
 fn walk<K: Fn(&[u8], usize) -> Step, R: Fn(&[u8], usize) -> Step>(
     s: &[u8],
     section: u8,

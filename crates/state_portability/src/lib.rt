@@ -12,7 +12,7 @@ ghost use Rattle.state_portability.specs.Bound.{some_bound_at};
 
 use state::{Portability, Question, Section};
 use state_index::keys::{block_key_end, byte_at};
-use state_index::{ahead, text_end, text_part};
+use state_index::{ahead, position, text_end, text_part};
 use state_layout::Manifest;
 
 // The revision under which question 31 is asked.
@@ -54,7 +54,8 @@ fn is_row(class: &[u8], row: usize) -> bool
     class.len() == n && class[n - 1] == bytes[n - 1] && class == &bytes[..n]
 }
 
-// Is the class one of those that depend on the target?
+// Is the class one of those that depend on the target? By the row's number and not by `zip`: that a row and a length are one name's is known of
+// their place alone.
 pub fn requires_target(class: &[u8]) -> bool
     ensures { result ≡ is_in class.now target_bound_classes }
 {
@@ -65,8 +66,7 @@ pub fn requires_target(class: &[u8]) -> bool
 fn some_requires_target(s: &[u8], blocks: &[u32]) -> bool
     ensures { result ≡ some_bound_at target_bound_classes s.now blocks.now }
 {
-    // A word is a position: `as`, since usize has no From<u32>.
-    blocks.iter().any(|block| requires_target(text_part(s, block_key_end(s, *block as usize))))
+    blocks.iter().any(|block| requires_target(text_part(s, block_key_end(s, position(*block)))))
 }
 
 // Question 31.

@@ -19,6 +19,7 @@ ghost use Rattle.state_references.specs.Rooms.{Roomy, keys_listed};
 use entries::{drives, has_source, is_of_way, joins, same_key};
 use sets::{all_new, texts_differ};
 use state::{Question, Section, WireDir};
+use state_index::position;
 use state_layout::keys::{Connectors, all_marked};
 use state_layout::{Manifest, room_start};
 
@@ -38,8 +39,7 @@ fn entries_hold<F: Fn(Connectors, usize, usize) -> Option<usize>>(
     let known: Connectors = m.keys(room);
     m.table(section)
         .iter()
-        // A word is a position: `as`, since usize has no From<u32>.
-        .try_fold(0, |hint, word| holds(known, *word as usize, hint))
+        .try_fold(0, |hint, word| holds(known, position(*word), hint))
         .is_some()
 }
 
@@ -80,7 +80,7 @@ fn require_exact_set<const SECTION: u8>(m: Manifest, room: &mut [u32], listed: u
     all_listed_new::<SECTION>(m, room, listed) && all_marked(&room[..count])
 }
 
-// Questions 17 to 20. `Roomy` is a clause, not a type: the room is written by each of them, and the clause is on its length alone.
+// Questions 17 to 20. `Roomy` is a clause, not a type's: the room is lent anew to each question, and a struct of it would be made for each.
 #[tactic(auto, using(crate::proofs::Answered::connections_answer, crate::proofs::Answered::schedule_answer, crate::proofs::Answered::order_answer, crate::proofs::Answered::no_first, crate::proofs::Answered::yes_first, crate::proofs::Answered::yes_all), unfolding(questions::specs::References::references))]
 fn ask_references(m: Manifest, room: &mut [u32]) -> Result<(), Question>
     requires roomy { Roomy m.s.now room.old }
@@ -106,8 +106,8 @@ fn ask_references(m: Manifest, room: &mut [u32]) -> Result<(), Question>
 fn ends_alike(s: &[u8], section: u8, words: &[u32], listed: &[u32]) -> bool {
     match (words, listed) {
         ([first, .., last], [first_listed, .., last_listed]) => {
-            same_key(s, section, *first as usize, *first_listed as usize)
-                && same_key(s, section, *last as usize, *last_listed as usize)
+            same_key(s, section, position(*first), position(*first_listed))
+                && same_key(s, section, position(*last), position(*last_listed))
         }
         _ => true,
     }
@@ -143,7 +143,7 @@ fn inputs_directed(m: Manifest) -> bool
 {
     m.table(Section::EXTERNAL_INPUTS)
         .iter()
-        .all(|word| is_of_way(m.s, WireDir::IN, *word as usize))
+        .all(|word| is_of_way(m.s, WireDir::IN, position(*word)))
 }
 
 // Are the names of the boundary outputs, with which they start, all different?

@@ -7,7 +7,7 @@ ghost use Rattle.state_index.specs.Keys.{text_at};
 ghost use Rattle.state_layout.specs.Keys.{keys_of};
 ghost use Rattle.state_layout.specs.Marks.{is_set};
 
-use state_index::{key_part, words};
+use state_index::{key_part, position, words};
 use state_layout::keys::Keys;
 
 // Are the keys that stand at words known and all different? Marks those that are met; stops at one that is unknown or was met before.
@@ -25,8 +25,7 @@ pub(crate) fn all_new<const SECTION: u8>(
     // A `try_fold` as in lib.rt did not prove: of marks that its closure changes nothing is known behind it.
     let mut hint = 0;
     for word in listed {
-        // A word is a position: `as`, since usize has no From<u32>.
-        let key = key_part(keys.s, SECTION, *word as usize);
+        let key = key_part(keys.s, SECTION, position(*word));
         let Some(i) = keys.mark_new(marks, key, hint) else {
             return false;
         };

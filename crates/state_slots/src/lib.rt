@@ -16,7 +16,7 @@ ghost use Rattle.state_slots.specs.Walk.{block_at, slot_at, stateful_of, NextSta
 
 use state::{BlockKind, Question, Section};
 use state_index::keys::{block_key_end, byte_at, number_at};
-use state_index::{SortKey, ahead, key_part, words};
+use state_index::{SortKey, ahead, key_part, position, words};
 use state_key_order::same_bytes;
 use state_layout::ends::block_kind_at;
 use state_layout::{Manifest, room_start};
@@ -43,8 +43,7 @@ fn state_len(s: &[u8], block: usize) -> u64
 fn next_stateful<'a>(s: &[u8], left: &mut Iter<'a, u32>) -> Option<&'a u32>
     ensures { NextStateful s.now (iter_rest left.old) (iter_rest left.new) result }
 {
-    // A word is a position: `as`, since usize has no From<u32>.
-    left.find(|block| is_stateful(s, **block as usize))
+    left.find(|block| is_stateful(s, position(**block)))
 }
 
 // Asks each stateful block with its slot, in order: yes to all, or the first no; 21 where a block or a slot is left alone.
@@ -63,7 +62,7 @@ fn for_pairs<F: Fn(&[u8], usize, usize) -> Result<(), Question>>(
     let mut left = blocks.iter();
     for slot in slots {
         let block = next_stateful(s, &mut left).ok_or(Question(21))?;
-        ask(s, *block as usize, *slot as usize)?;
+        ask(s, position(*block), position(*slot))?;
     }
     if next_stateful(s, &mut left).is_some() {
         return Err(Question(21));
@@ -105,7 +104,8 @@ fn slot_answer(s: &[u8], block: usize, slot: usize) -> Result<(), Question>
     Ok(())
 }
 
-// Puts the positions of the slots' offsets into as many words. That positions fit is a clause, here and below: no more of the manifest is lent.
+// Puts the positions of the slots' offsets into as many words. That positions fit is a clause, here and below: lent the manifest, both would find
+// the slots in it again and speak of its table.
 // With the slots by `zip` the proof did not close: nothing is known of what is written through an adapter of `iter_mut`.
 #[tactic(auto, using(crate::proofs::Offsets::gathering))]
 fn gather_offsets(s: &[u8], slots: &[u32], offsets: &mut [u32])
@@ -115,7 +115,7 @@ fn gather_offsets(s: &[u8], slots: &[u32], offsets: &mut [u32])
     offsets.copy_from_slice(slots);
     for at in offsets.iter_mut() {
         // A position fits in 32 bits, as asked.
-        *at = block_key_end(s, *at as usize) as u32;
+        *at = block_key_end(s, position(*at)) as u32;
     }
 }
 
@@ -137,7 +137,7 @@ fn slots_join(s: &[u8], offsets: &[u32]) -> bool
 {
     offsets
         .iter()
-        .try_fold(0, |expected, at| end_of(s, expected, *at as usize))
+        .try_fold(0, |expected, at| end_of(s, expected, position(*at)))
         .is_some()
 }
 

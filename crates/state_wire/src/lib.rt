@@ -1,10 +1,10 @@
 // Fields of the wire, read where they stand: little-endian numbers, tags, counts and strings. Slice and position are parameters (document 01).
-#![tactic(auto, using(crate::proofs::Fields::within), unfolding(crate::specs::Fields::read_span, crate::specs::Fields::read_number, crate::specs::Fields::read_tag, crate::specs::Fields::bounded_count, crate::specs::Fields::read_text))]
+#![tactic(auto, using(crate::proofs::Fields::within), unfolding(crate::specs::Fields::read_span, crate::specs::Fields::read_number, crate::specs::Fields::read_tag, crate::specs::Fields::bounded_count, crate::specs::Fields::read_count, crate::specs::Fields::read_text))]
 
 ghost use Rattle.std.specs.Prelude.{◌≡◌, ◌+◌, ◌-◌, ◌≤◌, length, leb};
 ghost use Rattle.state.specs.Bytes.{span, number_of};
 ghost use Rattle.state.specs.Outcome.{step_of, field_of, step_of_field, offset_of};
-ghost use Rattle.state_wire.specs.Fields.{read_span, read_number, read_tag, bounded_count, read_text, text_of, max_snapshot_bytes};
+ghost use Rattle.state_wire.specs.Fields.{read_span, read_number, read_tag, bounded_count, read_count, read_text, text_of, max_snapshot_bytes};
 
 use state::{Field, MAX_SNAPSHOT_BYTES, Question, Refusal, Step};
 
@@ -58,10 +58,8 @@ pub fn read_number<const W: usize>(s: &[u8], at: usize) -> Field
     requires width { W ≤ 8 }
     ensures { result ≡ field_of (read_number W s.now at) }
 {
-    match take(s, at, W) {
-        Ok(next) => Ok((number_at::<W>(s, at), next)),
-        Err(refusal) => Err(refusal),
-    }
+    let next = take(s, at, W)?;
+    Ok((number_at::<W>(s, at), next))
 }
 
 // A tag: a byte below `known`. Question 6 asks no more of it than that: which tags there are is the caller's to say.
@@ -69,16 +67,12 @@ pub fn read_number<const W: usize>(s: &[u8], at: usize) -> Field
 pub fn read_tag(s: &[u8], at: usize, known: u8) -> Result<(u8, usize), Refusal<usize>>
     ensures { result ≡ field_of (read_tag known s.now at) }
 {
-    match take(s, at, 1) {
-        Ok(next) => {
-            let tag = s[at];
-            if tag < known {
-                Ok((tag, next))
-            } else {
-                Err(Question(6).at(next))
-            }
-        }
-        Err(refusal) => Err(refusal),
+    let next = take(s, at, 1)?;
+    let tag = s[at];
+    if tag < known {
+        Ok((tag, next))
+    } else {
+        Err(Question(6).at(next))
     }
 }
 
@@ -91,6 +85,18 @@ pub fn bounded_count(s: &[u8], next: usize, count: u64, least: u64) -> Field
     } else {
         Err(Question(7).at(next))
     }
+}
+
+// A count of W bytes whose entries have at least so many bytes each.
+pub fn read_count<const W: usize>(s: &[u8], at: usize, least: u64) -> Field
+    requires width { W ≤ 8 }
+    ensures { result ≡ field_of (read_count W least s.now at) }
+{
+    let count = read_number::<W>(s, at);
+    let Ok((n, next)) = count else {
+        return count;
+    };
+    bounded_count(s, next, n, least)
 }
 
 // Where a number was read to, its refusal passed on.

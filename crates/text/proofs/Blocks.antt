@@ -137,10 +137,6 @@ clean-more {s} {q} {p} {r} c d = record { on = omega arith; within = d.within; e
 pub clean-part : {s : List ℕ} {q p : ℕ} (a b : ℕ) → CleanUpTo s q p → q ≤ a → a ≤ b → b ≤ p → CleanUpTo s a b
 clean-part a b c h g l = record { on = g; within = omega arith; each = λ k i m. c.each k (omega arith) (omega arith) }
 
--- the octets before a position, as the code reads them
-pub clean_at : (s : List ℕ) (p : ℕ) → 3 ≤ p → Clean (get_or s (p - 3) 0) (get_or s (p - 2) 0) (get_or s (p - 1) 0) (get_or s p 0) → CleanAt s p
-clean_at s p h c = rw (pad-at s p (p - 3) (omega arith), pad-at s (p + 1) (p - 2) (omega arith), pad-at s (p + 2) (p - 1) (omega arith)) c
-
 -- .. up to a position within them that no character crosses, if one was found
 pub passed-last : {s : List ℕ} {q p : ℕ} (r : Option ℕ) → IfSome r (λ at. (q < at) × (at ≤ p) × QuietAt s at) → CleanUpTo s q p → QuietAt s q → IfSome r (λ at. (q < at) × Passed s q at)
 passed-last None f c u = tt

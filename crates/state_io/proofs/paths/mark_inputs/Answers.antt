@@ -14,4 +14,4 @@ pub overflow_add-hint : goal.overflow_add-hint
 overflow_add-hint c = omega (arith, c.mark.ensures.found.at c.in-Some.i c.in-Some.is)
 
 pub loop-input-preserved : goal.loop-input-preserved
-loop-input-preserved c = marking-next _ _ _ c.loop-input.invariant c.loop-input-test.true refl c.key_part-key.ensures c.mark.ensures
+loop-input-preserved c = marking-next _ _ _ c.loop-input.invariant c.loop-input-test.true refl (rw c.position.ensures at c.key_part-key.ensures) c.mark.ensures

@@ -8,7 +8,7 @@ overflow_cast-paths c = omega (arith, c.requires.s_len_bound, path-within _ _ c.
 
 pub loop-connector-preserved-then-is_marked : goal.loop-connector-preserved-then-is_marked
 loop-connector-preserved-then-is_marked c =
-    ((tt, tt), tt, putting-next _ _ c.loop-connector.invariant.2 c.in-Some.ensures.steps (λ e. omega arith) c.connector_key_end.ensures)
+    ((tt, tt), tt, putting-next _ _ c.loop-connector.invariant.2 c.in-Some.ensures.steps (λ e. omega arith) (rw c.position.ensures at c.connector_key_end.ensures))
 
 pub loop-connector-preserved : goal.loop-connector-preserved
 loop-connector-preserved c = ((tt, tt), tt, putting-skip _ _ c.loop-connector.invariant.2 c.in-Some.ensures.steps (omega arith))
