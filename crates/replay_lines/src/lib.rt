@@ -1,5 +1,5 @@
-// Words, numbers and bytes in the lines that the replaying programs read. A word that is missing or spells none counts as none or 0, and is no
-// case of its own: scripts write the lines.
+// Words, numbers and bytes in the lines that the replaying programs read. A word that is missing, or no number or
+// byte, counts as empty or 0: scripts write the lines.
 
 #![tactic(auto)]
 

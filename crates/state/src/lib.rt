@@ -96,7 +96,7 @@ pub enum SideRefusal {
     Target(Refusal<u64>),
 }
 
-// The parts of a verdict: numbers, since document 01 and C's answers have them as such. Below, document 01 asks for constants of their type.
+// The parts of a verdict, numbers as in document 01 and C. Sections and tags below are associated constants, as document 01 asks.
 #[derive(Clone, Copy)]
 pub struct Part(pub u8);
 

@@ -96,7 +96,7 @@ fn mark_key(
     Some(i + 1)
 }
 
-// Marks the connectors that the list of keys at a position names: one call, as `mark_parameters` is, of other keys, list and entries.
+// Marks the connectors that the list of keys at a position names: one call of `mark_list`, as is `mark_parameters`, with other keys and entries.
 #[tactic(auto, unfolding(crate::specs::Each::keys_named))]
 fn mark_keys(connectors: Connectors, marks: &mut [u32], at: usize, hint: usize) -> Option<usize>
     requires { length marks.old ≡ length connectors.words.now }

@@ -17,7 +17,7 @@ use keys::{block_key_end, connector_key_end, count_at};
 use state::Section;
 use state_wire::{part, remaining};
 
-// What positions are sorted by. Two kinds, of which one law says that they order: a closure's order would be asked of each caller.
+// What positions are sorted by. A kind, no closure: that it orders is proved once, not at each caller.
 #[derive(Clone, Copy, PartialEq, Eq)]
 pub enum SortKey {
     // The text of the string there.
@@ -80,7 +80,7 @@ pub fn key_part(s: &[u8], section: u8, at: usize) -> &[u8]
     }
 }
 
-// Where the entry that a word stands for starts. A cast, as std has no `From` for it.
+// A word as a position. A cast: `usize` has no `From<u32>`.
 pub fn position(word: u32) -> usize
     ensures { result ≡ word }
 {

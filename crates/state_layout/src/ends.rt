@@ -134,7 +134,7 @@ pub fn connector_type_at(s: &[u8], at: usize) -> usize
     type_at(s, connector_key_end(s, at))
 }
 
-// Entries of sections 2, 4 and 12.
+// Entries of sections 2, 4 and 12: a chain of calls each, over other fields.
 pub fn class_end(s: &[u8], at: usize) -> usize
     ensures { result ≡ past (entry enums) s.now at }
 {

@@ -17,7 +17,7 @@ fn put_hint(hints: &mut [u32], hint: u32) {
     }
 }
 
-// Puts each place of a table where the key of its entry is looked for. Casts: `usize` has no `From<u32>`, and a place fits 32 bits, as asked.
+// Puts each place of a table where the key of its entry is looked for. A cast: std has no `From` for it; a place fits in 32 bits, as asked.
 fn put_all(s: &[u8], section: u8, words: &[u32], hints: &mut [u32])
     requires { (4 ≤ length hints.old) × (length words.now < 2 ^ 32 - 1) }
 {

@@ -14,7 +14,7 @@ pub enum Asked {
 }
 
 // How the list of a section is read: the least bytes of an entry, how many bytes of a key are passed over in the order, and
-// when the order is asked. Data, compared at each entry: a closure for it would be one more at each of eleven calls.
+// when the order is asked. Data, compared at each entry: a closure for it would be one more at each of ten calls.
 #[derive(Clone, Copy)]
 pub struct Layout {
     pub least: u64,

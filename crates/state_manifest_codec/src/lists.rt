@@ -1,4 +1,4 @@
-// Orders, and lists that keep no starts: a count, then the entries.
+// Question 9, and lists that keep no starts: a count, then the entries.
 #![tactic(auto, using(crate::proofs::Reading::reads))]
 
 ghost use Rattle.std.specs.Prelude.{◌≡◌, true, option_map};

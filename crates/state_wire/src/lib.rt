@@ -87,7 +87,7 @@ pub fn bounded_count(s: &[u8], next: usize, count: u64, least: u64) -> Field
     }
 }
 
-// A count of W bytes whose entries have at least so many bytes each.
+// A count of W bytes, if what is left has `least` bytes for each.
 pub fn read_count<const W: usize>(s: &[u8], at: usize, least: u64) -> Field
     requires width { W ≤ 8 }
     ensures { result ≡ field_of (read_count W least s.now at) }
