@@ -9,7 +9,7 @@ ghost use Rattle.format.specs.Places.{number_at};
 ghost use Rattle.format.specs.Values.{value_at, Well};
 ghost use Rattle.questions.specs.Sets.{first};
 ghost use Rattle.tail.specs.Tail.{values, value_answer, values_answer};
-ghost use Rattle.state_layout.specs.Keys.{classes_of};
+ghost use Rattle.state_layout.specs.Lent.{classes_in};
 ghost use Rattle.state_layout.specs.Tables.{manifest_of};
 ghost use Rattle.state_codec.specs.Listed.{connectors_at, Listed, Asked};
 
@@ -41,7 +41,7 @@ fn value_answer(
 ) -> Result<(), Question>
     requires listed { Listed connectors.s.now connectors.words.now }
     requires well { Well max_snapshot_bytes (entry values) t.now at }
-    ensures { result ≡ said (value_answer (classes_of classes.entry.s.now classes.entry.words.now) (connectors_at connectors.entry.s.now connectors.entry.words.now) (value_at (entry values) t.now at)) }
+    ensures { result ≡ said (value_answer (classes_in classes.entry) (connectors_at connectors.entry.s.now connectors.entry.words.now) (value_at (entry values) t.now at)) }
 {
     let s = connectors.s;
     let key = key_part(t, Section::CONNECTORS, at);
@@ -63,7 +63,7 @@ fn values_answer(classes: Classes, connectors: Connectors, t: &[u8]) -> Result<(
     requires listed { Listed connectors.s.now connectors.words.now }
     requires well { Well max_snapshot_bytes (counted values) t.now 0 }
     requires counted { number_at 4 t.now 0 ≡ length connectors.words.now }
-    ensures { result ≡ said (first (map (value_answer (classes_of classes.entry.s.now classes.entry.words.now) (connectors_at connectors.entry.s.now connectors.entry.words.now)) (value_at (counted values) t.now 0))) }
+    ensures { result ≡ said (first (map (value_answer (classes_in classes.entry) (connectors_at connectors.entry.s.now connectors.entry.words.now)) (value_at (counted values) t.now 0))) }
 {
     let mut p = ahead(t, 0, 4);
     for i in 0..connectors.words.len() {

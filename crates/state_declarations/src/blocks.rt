@@ -9,7 +9,7 @@ ghost use Rattle.format.specs.Places.{past};
 ghost use Rattle.format.specs.Values.{value_at, Well};
 ghost use Rattle.questions.specs.Sets.{first};
 ghost use Rattle.questions.specs.Declarations.{kind_holds, params_hold, block_answer};
-ghost use Rattle.state_layout.specs.Keys.{classes_of};
+ghost use Rattle.state_layout.specs.Lent.{classes_in};
 ghost use Rattle.state_declarations.specs.Each.{each_in, Asked, inputs_at, outputs_at, has_class, is_port, are_ports};
 
 use state::{BlockKind, Question, WireDir};
@@ -62,7 +62,7 @@ fn each_holds<K: Copy, E: Fn(&[u8], usize) -> usize, H: Fn(K, usize, usize) -> b
 
 // Question 13 of the parameter at a position.
 fn parameter_holds(classes: Classes, _place: usize, at: usize) -> bool
-    ensures { result ≡ has_class classes.entry.s.now (classes_of classes.entry.s.now classes.entry.words.now) at }
+    ensures { result ≡ has_class classes.entry.s.now (classes_in classes.entry) at }
 {
     validate_value_enum(classes, classes.s, text_end(classes.s, at))
 }
@@ -70,7 +70,7 @@ fn parameter_holds(classes: Classes, _place: usize, at: usize) -> bool
 // Question 13 of the block at a position.
 #[tactic(auto, using(crate::proofs::Parts::params_passed))]
 fn parameters_hold(classes: Classes, at: usize) -> bool
-    ensures { result ≡ params_hold (classes_of classes.entry.s.now classes.entry.words.now) (value_at (entry block_entries) classes.entry.s.now at) }
+    ensures { result ≡ params_hold (classes_in classes.entry) (value_at (entry block_entries) classes.entry.s.now at) }
 {
     each_holds(
         classes.s,
@@ -127,7 +127,7 @@ fn ports_hold(s: &[u8], at: usize) -> bool
 fn block_answer(classes: Classes, at: usize) -> Result<(), Question>
     requires are_bytes { AreBytes classes.s.now }
     requires well { Well max_snapshot_bytes (entry block_entries) classes.s.now at }
-    ensures { result ≡ said (block_answer (classes_of classes.entry.s.now classes.entry.words.now) (value_at (entry block_entries) classes.entry.s.now at)) }
+    ensures { result ≡ said (block_answer (classes_in classes.entry) (value_at (entry block_entries) classes.entry.s.now at)) }
 {
     if !kind_holds(classes.s, at) {
         return Err(Question(12));
@@ -145,7 +145,7 @@ fn block_answer(classes: Classes, at: usize) -> Result<(), Question>
 pub(crate) fn blocks_answer(classes: Classes, blocks: &[u32]) -> Result<(), Question>
     requires are_bytes { AreBytes classes.s.now }
     requires all { All (Well max_snapshot_bytes (entry block_entries) classes.s.now) blocks.now }
-    ensures { result ≡ said (first (map (block_answer (classes_of classes.entry.s.now classes.entry.words.now)) (map (value_at (entry block_entries) classes.entry.s.now) blocks.now))) }
+    ensures { result ≡ said (first (map (block_answer (classes_in classes.entry)) (map (value_at (entry block_entries) classes.entry.s.now) blocks.now))) }
 {
     for word in blocks {
         block_answer(classes, position(*word))?;

@@ -7,7 +7,7 @@ ghost use Rattle.format.specs.Manifest.{enums, connectors as connector_entries};
 ghost use Rattle.format.specs.Places.{past};
 ghost use Rattle.questions.specs.Sets.{gather, same_set};
 ghost use Rattle.state_layout.specs.Marks.{marks_of};
-ghost use Rattle.state_layout.specs.Keys.{keys_of};
+ghost use Rattle.state_layout.specs.Lent.{keys_in};
 ghost use Rattle.state_declarations.specs.Each.{names_in, MarksEach, Naming, ListNaming, keys_named, ports_named, class_at, classes_named, type_named};
 
 use state::WireValueType;
@@ -90,7 +90,7 @@ fn mark_key(
     hint: usize,
 ) -> Option<usize>
     requires { length marks.old ≡ length connectors.words.now }
-    ensures { MarksEach (keys_of connector_entries connectors.entry.s.now connectors.entry.words.now) (span connectors.entry.s.now start end ∷ []) result marks.old marks.new }
+    ensures { MarksEach (keys_in connector_entries connectors.entry) (span connectors.entry.s.now start end ∷ []) result marks.old marks.new }
 {
     let i = connectors.mark(marks, part(connectors.s, start, end), hint)?;
     Some(i + 1)
@@ -100,7 +100,7 @@ fn mark_key(
 #[tactic(auto, unfolding(crate::specs::Each::keys_named))]
 fn mark_keys(connectors: Connectors, marks: &mut [u32], at: usize, hint: usize) -> Option<usize>
     requires { length marks.old ≡ length connectors.words.now }
-    ensures { MarksEach (keys_of connector_entries connectors.entry.s.now connectors.entry.words.now) (keys_named connectors.entry.s.now at) result marks.old marks.new }
+    ensures { MarksEach (keys_in connector_entries connectors.entry) (keys_named connectors.entry.s.now at) result marks.old marks.new }
 {
     mark_list(
         connectors.s,
@@ -116,7 +116,7 @@ fn mark_keys(connectors: Connectors, marks: &mut [u32], at: usize, hint: usize) 
 // Marks the connectors that are ports of the block at a position.
 fn mark_ports(connectors: Connectors, marks: &mut [u32], at: usize, hint: usize) -> Option<usize>
     requires { length marks.old ≡ length connectors.words.now }
-    ensures { MarksEach (keys_of connector_entries connectors.entry.s.now connectors.entry.words.now) (ports_named connectors.entry.s.now at) result marks.old marks.new }
+    ensures { MarksEach (keys_in connector_entries connectors.entry) (ports_named connectors.entry.s.now at) result marks.old marks.new }
 {
     let s = connectors.s;
     let inputs = parameters_end(s, parameters_at(s, at));
@@ -127,7 +127,7 @@ fn mark_ports(connectors: Connectors, marks: &mut [u32], at: usize, hint: usize)
 // Question 15, with a mark for each connector.
 pub(crate) fn ports_are(connectors: Connectors, blocks: &[u32], marks: &mut [u32]) -> bool
     requires { length marks.old ≡ length connectors.words.now }
-    ensures { result ≡ same_set (gather (ports_named connectors.entry.s.now) blocks.now) (keys_of connector_entries connectors.entry.s.now connectors.entry.words.now) }
+    ensures { result ≡ same_set (gather (ports_named connectors.entry.s.now) blocks.now) (keys_in connector_entries connectors.entry) }
 {
     marks.fill(0);
     let met = mark_each(connectors, marks, blocks, mark_ports);
@@ -137,7 +137,7 @@ pub(crate) fn ports_are(connectors: Connectors, blocks: &[u32], marks: &mut [u32
 // Marks the class of the value or the value type at a position.
 fn mark_class(classes: Classes, marks: &mut [u32], at: usize, hint: usize) -> Option<usize>
     requires { length marks.old ≡ length classes.words.now }
-    ensures { MarksEach (keys_of enums classes.entry.s.now classes.entry.words.now) (class_at classes.entry.s.now at) result marks.old marks.new }
+    ensures { MarksEach (keys_in enums classes.entry) (class_at classes.entry.s.now at) result marks.old marks.new }
 {
     if byte_at(classes.s, at) != WireValueType::ENUM {
         return Some(hint);
@@ -155,7 +155,7 @@ fn mark_parameter(
     hint: usize,
 ) -> Option<usize>
     requires { length marks.old ≡ length classes.words.now }
-    ensures { MarksEach (keys_of enums classes.entry.s.now classes.entry.words.now) (class_at classes.entry.s.now (past text classes.entry.s.now start)) result marks.old marks.new }
+    ensures { MarksEach (keys_in enums classes.entry) (class_at classes.entry.s.now (past text classes.entry.s.now start)) result marks.old marks.new }
 {
     mark_class(classes, marks, text_end(classes.s, start), hint)
 }
@@ -164,7 +164,7 @@ fn mark_parameter(
 #[tactic(auto, unfolding(crate::specs::Each::classes_named))]
 fn mark_parameters(classes: Classes, marks: &mut [u32], at: usize, hint: usize) -> Option<usize>
     requires { length marks.old ≡ length classes.words.now }
-    ensures { MarksEach (keys_of enums classes.entry.s.now classes.entry.words.now) (classes_named classes.entry.s.now at) result marks.old marks.new }
+    ensures { MarksEach (keys_in enums classes.entry) (classes_named classes.entry.s.now at) result marks.old marks.new }
 {
     let list = parameters_at(classes.s, at);
     mark_list(
@@ -181,7 +181,7 @@ fn mark_parameters(classes: Classes, marks: &mut [u32], at: usize, hint: usize) 
 // Marks the class of the value type of the connector at a position.
 fn mark_type(classes: Classes, marks: &mut [u32], at: usize, hint: usize) -> Option<usize>
     requires { length marks.old ≡ length classes.words.now }
-    ensures { MarksEach (keys_of enums classes.entry.s.now classes.entry.words.now) (type_named classes.entry.s.now at) result marks.old marks.new }
+    ensures { MarksEach (keys_in enums classes.entry) (type_named classes.entry.s.now at) result marks.old marks.new }
 {
     mark_class(classes, marks, connector_type_at(classes.s, at), hint)
 }
@@ -194,7 +194,7 @@ fn mark_classes(
     connectors: &[u32],
 ) -> Option<usize>
     requires { length marks.old ≡ length classes.words.now }
-    ensures { MarksEach (keys_of enums classes.entry.s.now classes.entry.words.now) (gather (classes_named classes.entry.s.now) blocks.now ++ gather (type_named classes.entry.s.now) connectors.now) result marks.old marks.new }
+    ensures { MarksEach (keys_in enums classes.entry) (gather (classes_named classes.entry.s.now) blocks.now ++ gather (type_named classes.entry.s.now) connectors.now) result marks.old marks.new }
 {
     mark_each(classes, marks, blocks, mark_parameters)?;
     mark_each(classes, marks, connectors, mark_type)
@@ -209,7 +209,7 @@ pub(crate) fn classes_are(
     marks: &mut [u32],
 ) -> bool
     requires { length marks.old ≡ length classes.words.now }
-    ensures { result ≡ same_set (gather (classes_named classes.entry.s.now) blocks.now ++ gather (type_named classes.entry.s.now) connectors.now) (keys_of enums classes.entry.s.now classes.entry.words.now) }
+    ensures { result ≡ same_set (gather (classes_named classes.entry.s.now) blocks.now ++ gather (type_named classes.entry.s.now) connectors.now) (keys_in enums classes.entry) }
 {
     marks.fill(0);
     let met = mark_classes(classes, marks, blocks, connectors);

@@ -6,7 +6,7 @@ ghost use Rattle.format.specs.Fields.{given};
 ghost use Rattle.format.specs.Values.{value_at};
 ghost use Rattle.questions.specs.Sets.{first};
 ghost use Rattle.questions.specs.Inputs.{bound_answer};
-ghost use Rattle.state_layout.specs.Keys.{classes_of};
+ghost use Rattle.state_layout.specs.Lent.{classes_in};
 ghost use Rattle.state_io.specs.Paths.{definition_at, answer_among, Sought};
 
 use state::{Question, Section, WireValueType};
@@ -21,7 +21,7 @@ use state_layout::same_type;
 // Not one function with `value_answer` of state_codec: both ask for the type and the class, but of other bytes and under other numbers.
 #[tactic(auto, using(crate::proofs::Bounded::bound_answers))]
 fn bound_answer(classes: Classes, t: usize, at: usize) -> Result<(), Question>
-    ensures { result ≡ said (first (map (bound_answer (classes_of classes.entry.s.now classes.entry.words.now) (value_at value_type classes.entry.s.now t)) (given value (value_at (optional value) classes.entry.s.now at)))) }
+    ensures { result ≡ said (first (map (bound_answer (classes_in classes.entry) (value_at value_type classes.entry.s.now t)) (given value (value_at (optional value) classes.entry.s.now at)))) }
 {
     let s = classes.s;
     if byte_at(s, at) != 1 {
@@ -47,7 +47,7 @@ fn definition_answer(
     hint: usize,
 ) -> Result<(), Question>
     requires { Sought classes.s.now paths.now }
-    ensures { result ≡ said (answer_among classes.entry.s.now (classes_of classes.entry.s.now classes.entry.words.now) paths.now (definition_at classes.entry.s.now at)) }
+    ensures { result ≡ said (answer_among classes.entry.s.now (classes_in classes.entry) paths.now (definition_at classes.entry.s.now at)) }
 {
     let s = classes.s;
     let key = text_part(s, at);
@@ -70,7 +70,7 @@ pub(crate) fn definitions_answer(
     definitions: &[u32],
 ) -> Result<(), Question>
     requires { Sought classes.s.now paths.now }
-    ensures { result ≡ said (first (map (λ p. answer_among classes.entry.s.now (classes_of classes.entry.s.now classes.entry.words.now) paths.now (definition_at classes.entry.s.now p)) definitions.now)) }
+    ensures { result ≡ said (first (map (λ p. answer_among classes.entry.s.now (classes_in classes.entry) paths.now (definition_at classes.entry.s.now p)) definitions.now)) }
 {
     definitions.iter().enumerate().try_for_each(|(hint, at)| {
         definition_answer(classes, paths, position(*at), hint)

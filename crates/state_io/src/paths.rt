@@ -8,6 +8,7 @@ ghost use Rattle.state_index.specs.Sort.{Sorts};
 ghost use Rattle.state_index.specs.declared.SortKey.TheVariants.{Text};
 ghost use Rattle.state_layout.specs.Marks.{marks_of};
 ghost use Rattle.state_layout.specs.Keys.{keys_of};
+ghost use Rattle.state_layout.specs.Lent.{keys_in};
 ghost use Rattle.state_io.specs.Paths.{chosen, external_paths, another, count_agreeing};
 
 use state::Section;
@@ -23,7 +24,7 @@ use state_layout::same_type;
 // No answer is wanted here: that all are known was asked by 25. A `for`: of marks that a closure changes nothing is known behind it.
 fn mark_inputs(connectors: Connectors, inputs: &[u32], marks: &mut [u32])
     requires { length marks.old ≡ length connectors.words.now }
-    ensures { marks.new ≡ marks_of (keys_of manifest.external_inputs connectors.entry.s.now inputs.now) (keys_of manifest.connectors connectors.entry.s.now connectors.entry.words.now) }
+    ensures { marks.new ≡ marks_of (keys_of manifest.external_inputs connectors.entry.s.now inputs.now) (keys_in manifest.connectors connectors.entry) }
 {
     marks.fill(0);
     let mut hint = 0;

@@ -3,3 +3,4 @@ pub mod Tables
 pub mod Marks
 pub mod Keys
 pub mod Laid
+pub mod Lent

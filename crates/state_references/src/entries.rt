@@ -2,9 +2,10 @@
 // connectors' table that the next entry is to try first.
 ghost use Rattle.std.specs.Prelude.{◌≡◌, is_some};
 ghost use Rattle.format.specs.Lists.{same};
-ghost use Rattle.format.specs.Manifest.{numbered};
+ghost use Rattle.format.specs.Manifest.{numbered, connectors};
 ghost use Rattle.format.specs.Places.{key_at};
-ghost use Rattle.state_references.specs.Known.{names_of, of_way, known_at, directed_at, joins_at, drives_at, source_at};
+ghost use Rattle.state_layout.specs.Lent.{keys_in};
+ghost use Rattle.state_references.specs.Known.{of_way, known_at, directed_at, joins_at, drives_at, source_at};
 
 use state::{Section, WireDir};
 use state_index::keys::{block_key_end, byte_at, connector_key_end};
@@ -22,7 +23,7 @@ pub(crate) fn same_key(s: &[u8], section: u8, a: usize, b: usize) -> bool
 // Looks for the connector whose key stands at a position, and gives the place after it: the one to try next, as keys ascend.
 #[tactic(auto, using(crate::proofs::Telling::found_known), unfolding(crate::specs::Known::known_at, format::specs::Manifest::numbered))]
 fn find_connector(known: Connectors, at: usize, hint: usize) -> Option<usize>
-    ensures { is_some result ≡ known_at known.entry.s.now (names_of known.entry.s.now known.entry.words.now) at }
+    ensures { is_some result ≡ known_at known.entry.s.now (keys_in connectors known.entry) at }
 {
     let i = known.find(key_part(known.s, Section::CONNECTORS, at), hint)?;
     Some(i + 1)
@@ -31,7 +32,7 @@ fn find_connector(known: Connectors, at: usize, hint: usize) -> Option<usize>
 // The same, where the key is of this direction.
 #[tactic(auto, unfolding(crate::specs::Known::directed_at))]
 fn find_directed(known: Connectors, way: u8, at: usize, hint: usize) -> Option<usize>
-    ensures { is_some result ≡ directed_at known.entry.s.now (names_of known.entry.s.now known.entry.words.now) way at }
+    ensures { is_some result ≡ directed_at known.entry.s.now (keys_in connectors known.entry) way at }
 {
     if !is_of_way(known.s, way, at) {
         return None;
@@ -50,7 +51,7 @@ pub(crate) fn is_of_way(s: &[u8], way: u8, at: usize) -> bool
 // Question 17 of a connection.
 #[tactic(auto, unfolding(crate::specs::Known::joins_at))]
 pub(crate) fn joins(known: Connectors, at: usize, hint: usize) -> Option<usize>
-    ensures { is_some result ≡ joins_at known.entry.s.now (names_of known.entry.s.now known.entry.words.now) at }
+    ensures { is_some result ≡ joins_at known.entry.s.now (keys_in connectors known.entry) at }
 {
     let sink = connector_key_end(known.s, at);
     find_directed(known, WireDir::IN, sink, hint)?;
@@ -60,7 +61,7 @@ pub(crate) fn joins(known: Connectors, at: usize, hint: usize) -> Option<usize>
 // Question 20 of a driver.
 #[tactic(auto, unfolding(crate::specs::Known::drives_at))]
 pub(crate) fn drives(known: Connectors, at: usize, hint: usize) -> Option<usize>
-    ensures { is_some result ≡ drives_at known.entry.s.now (names_of known.entry.s.now known.entry.words.now) at }
+    ensures { is_some result ≡ drives_at known.entry.s.now (keys_in connectors known.entry) at }
 {
     let driver = connector_key_end(known.s, at);
     find_connector(known, driver, hint)?;
@@ -70,7 +71,7 @@ pub(crate) fn drives(known: Connectors, at: usize, hint: usize) -> Option<usize>
 // Question 26 of a boundary output: its source.
 #[tactic(auto, unfolding(crate::specs::Known::source_at))]
 pub(crate) fn has_source(known: Connectors, at: usize, hint: usize) -> Option<usize>
-    ensures { is_some result ≡ source_at known.entry.s.now (names_of known.entry.s.now known.entry.words.now) at }
+    ensures { is_some result ≡ source_at known.entry.s.now (keys_in connectors known.entry) at }
 {
     find_directed(known, WireDir::OUT, text_end(known.s, at), hint)
 }

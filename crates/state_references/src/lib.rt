@@ -7,13 +7,15 @@ mod sets;
 ghost use Rattle.std.specs.Prelude.{◌≡◌, true, map, ◌&&◌, ◌≤◌, ℕ, Bool, List, is_some, take, length};
 ghost use Rattle.state.specs.Outcome.{said};
 ghost use Rattle.format.specs.Lists.{all_different};
+ghost use Rattle.format.specs.Manifest.{connectors};
 ghost use Rattle.format.specs.Fields.{connectors_of, drivers_of, external_inputs_of, boundary_outputs_of, output_name};
 ghost use Rattle.questions.specs.Sets.{all, all_in, each_once, first};
 ghost use Rattle.questions.specs.Declarations.{connector_names};
 ghost use Rattle.questions.specs.References.{drivers_hold, externals_hold, outputs_hold, references, boundaries};
 ghost use Rattle.state_layout.specs.Tables.{manifest_of, table_of, Tabled, Leaves};
 ghost use Rattle.state_layout.specs.Marks.{is_set};
-ghost use Rattle.state_references.specs.Known.{names_of, of_way};
+ghost use Rattle.state_layout.specs.Lent.{keys_in};
+ghost use Rattle.state_references.specs.Known.{of_way};
 ghost use Rattle.state_references.specs.Rooms.{Roomy, keys_listed};
 
 use entries::{drives, has_source, is_of_way, joins, same_key};
@@ -33,7 +35,7 @@ fn entries_hold<F: Fn(Connectors, usize, usize) -> Option<usize>>(
     ghost test: { List ℕ → List (List ℕ) → ℕ → Bool }
     requires section_bound { section ≤ 12 }
     requires callable { F.IsAlwaysCallable holds }
-    requires tells { (known : _) (p hint : ℕ) (f : _) → F.post holds known p hint f → is_some f ≡ test known.s.now (names_of known.s.now known.words.now) p }
+    requires tells { (known : _) (p hint : ℕ) (f : _) → F.post holds known p hint f → is_some f ≡ test known.s.now (keys_in connectors known) p }
     ensures { result ≡ all (test m.entry.s.now (connector_names (connectors_of (manifest_of m.entry.s.now)))) (table_of section m.entry.s.now m.entry.words.now) }
 {
     let known: Connectors = m.keys(room);

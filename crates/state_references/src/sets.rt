@@ -5,6 +5,7 @@ ghost use Rattle.format.specs.Manifest.{numbered};
 ghost use Rattle.questions.specs.Sets.{all, all_in};
 ghost use Rattle.state_index.specs.Keys.{text_at};
 ghost use Rattle.state_layout.specs.Keys.{keys_of};
+ghost use Rattle.state_layout.specs.Lent.{keys_in};
 ghost use Rattle.state_layout.specs.Marks.{is_set};
 
 use state_index::{key_part, position, words};
@@ -18,8 +19,8 @@ pub(crate) fn all_new<const SECTION: u8>(
     listed: &[u32],
 ) -> bool
     requires { length marks.old ≡ length keys.words.now }
-    ensures answer { result ≡ (all_in (keys_of (numbered SECTION) keys.entry.s.now listed.now) (keys_of (numbered SECTION) keys.entry.s.now keys.entry.words.now) && all_different (keys_of (numbered SECTION) keys.entry.s.now listed.now)) }
-    ensures marked { result ≡ true → all is_set marks.new ≡ all_in (keys_of (numbered SECTION) keys.entry.s.now keys.entry.words.now) (keys_of (numbered SECTION) keys.entry.s.now listed.now) }
+    ensures answer { result ≡ (all_in (keys_of (numbered SECTION) keys.entry.s.now listed.now) (keys_in (numbered SECTION) keys.entry) && all_different (keys_of (numbered SECTION) keys.entry.s.now listed.now)) }
+    ensures marked { result ≡ true → all is_set marks.new ≡ all_in (keys_in (numbered SECTION) keys.entry) (keys_of (numbered SECTION) keys.entry.s.now listed.now) }
 {
     marks.fill(0);
     // A `try_fold` as in lib.rt did not prove: of marks that its closure changes nothing is known behind it.
