@@ -4,7 +4,6 @@
 mod values;
 
 ghost use Rattle.std.specs.Prelude.{◌≡◌, not, ◌+◌, leb};
-ghost use Rattle.state.specs.Bytes.{AreBytes};
 ghost use Rattle.state.specs.Outcome.{step_of};
 ghost use Rattle.state_wire.specs.Fields.{max_snapshot_bytes};
 ghost use Rattle.questions.specs.Portability.{target_bound_classes};

@@ -36,7 +36,7 @@ fn mark_inputs(connectors: Connectors, inputs: &[u32], marks: &mut [u32])
     }
 }
 
-// Puts where the paths of the marked connectors stand; the result is how many they are.
+// Puts where the paths of the marked connectors stand; the result is how many they are. That positions fit is a clause: `Keys` does not say it.
 fn put_paths(connectors: Connectors, marks: &[u32], paths: &mut [u32]) -> usize
     requires s_len_bound { length connectors.s.now < 2 ^ 32 }
     requires room { length connectors.words.now ≤ length paths.old }

@@ -6,7 +6,7 @@ use mathlib.Core.Bool.{Bool, true, false, ◌&&◌, and_assoc}
 use mathlib.Core.List.{List, [], ◌∷◌, map}
 use lib.ListN.{length}
 use Rattle.format.specs.Lists.{all_different}
-use Rattle.format.specs.Manifest.{numbered}
+use Rattle.format.specs.Manifest.{numbered, connectors}
 use Rattle.format.specs.Fields.{blocks_of, connectors_of, connections_of, schedule_of, connector_order_of, drivers_of, external_inputs_of, boundary_outputs_of, output_name, output_source}
 use Rattle.questions.specs.Sets.{all, all_in, each_once, ◌unless◌, first}
 use Rattle.std.specs.Prelude.{Result, Ok, Err}
@@ -18,7 +18,8 @@ use Rattle.state_index.specs.Keys.{text_at}
 use Rattle.state_layout.specs.Tables.{manifest_of, table_of, Laid}
 use Rattle.state_layout.proofs.Indexed.{rows, table_long, table-blocks, table-connectors, table-connections, table-schedule, table-order, table-drivers, table-externals, table-outputs}
 use Rattle.state_layout.proofs.Names.{names-blocks, names-connectors}
-use Rattle.state_references.specs.Known.{names_of, of_way, joins_at, drives_at, source_at}
+use Rattle.state_layout.specs.Keys.{keys_of}
+use Rattle.state_references.specs.Known.{of_way, joins_at, drives_at, source_at}
 use Rattle.state_references.specs.Rooms.{keys_listed, Roomy}
 use Rattle.state_references.proofs.Valued.{all-join-is, all-drive-is, all-output-is, all-external-is, keys-schedule, keys-order, keys-externals, names-outputs}
 
@@ -27,7 +28,7 @@ module _ {s tables : List ℕ} (t : Laid s tables) where
   abbrev known : List (List ℕ)
   known = connector_names (connectors_of (manifest_of s))
 
-  pub names-known : names_of s (table_of 4 s tables) ≡ known
+  pub names-known : keys_of connectors s (table_of 4 s tables) ≡ known
   names-known = names-connectors t.bytes (table-connectors t)
 
   pub connections_answer : all (joins_at s known) (table_of 5 s tables) ≡ all (joins known) (connections_of (manifest_of s))

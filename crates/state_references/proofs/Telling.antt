@@ -18,11 +18,11 @@ use Rattle.questions.specs.Sets.{all}
 use Rattle.state_index.specs.Words.{Found}
 use Rattle.state_layout.specs.Keys.{keys_of}
 use Rattle.state_layout.proofs.Marked.{get-map, key_in}
-use Rattle.state_references.specs.Known.{names_of, known_at}
+use Rattle.state_references.specs.Known.{known_at}
 
 -- ---- the connector whose key stands at a position
 module _ {s words : List ℕ} (p : ℕ) {f : Option ℕ} (r : Found connectors s words (key_at connectors s p) f) where
-  pub found_known : {i : ℕ} → f ≡ Some i → true ≡ known_at s (names_of s words) p
+  pub found_known : {i : ℕ} → f ≡ Some i → true ≡ known_at s (keys_of connectors s words) p
   unfolding known_at
   found_known {i} e =
       let h = r.at i e in

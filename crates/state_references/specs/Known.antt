@@ -5,11 +5,6 @@ use Rattle.format.specs.Format.{text}
 use Rattle.format.specs.Keys.{block_key, connector_key}
 use Rattle.format.specs.Manifest.{connectors}
 use Rattle.format.specs.Places.{past, key_at}
-use Rattle.state_layout.specs.Keys.{keys_of}
-
--- the keys of the connectors that words list
-abbrev pub names_of : (s words : List ℕ) → List (List ℕ)
-names_of s words = keys_of connectors s words
 
 module _ (s : List ℕ) where
   -- the connector key at a position is of a direction: 0 in, 1 out
