@@ -1,5 +1,5 @@
 #!/usr/bin/env python3
-"""Prints the rows of crates/questions/proofs/Cases.antt: manifests for questions 11 to 32.
+"""Prints the rows of crates/questions/proofs/Cases.antt: manifests for questions 11 to 32, and one for each target-bound class.
 
     ORACLE=.. python3 tools/question_rows.py
 
@@ -10,6 +10,7 @@ import os
 import struct
 import subprocess
 
+from input_edits import BOUND
 from manifests import *
 
 KEY, OTHER = block_key(b""), block_key(b"b")
@@ -293,10 +294,17 @@ def row(question, what, m, revision=2):
     return "    -- %s\n    ∷ %s\n" % (what, line if revision == 2 else "revision1 (%s)" % line)
 
 
+def listed_as(name, rows):
+    print("\nabbrev pub %s_rows : List Row\n%s_rows =\n%s    ∷ []" % (name, name, rows))
+
+
 def main():
     for name, questions in GROUPS.items():
         rows = "".join(row(q, *r) for q in questions for r in ROWS[q]).replace("∷ ", "", 1)
-        print("\nabbrev pub %s_rows : List Row\n%s_rows =\n%s    ∷ []" % (name, name, rows))
+        listed_as(name, rows)
+    for name in BOUND:
+        assert ask(one(name=name, bound=(b"a", b"o")), 2)[0] == "accepted", name
+    listed_as("bound", "".join('    ∷ bound_by "%s"\n' % name.decode() for name in BOUND).replace("∷ ", "", 1))
 
 
 if __name__ == "__main__":

@@ -1,7 +1,7 @@
 -- Laws of byte strings in lists, and of lists.
 use Prim.Native.Nat.{ℕ}
 use mathlib.Core.Path.{◌≡◌, refl, sym, ap, ◌∙◌}
-use mathlib.Core.Bool.{Bool, true, false, ◌||◌, true≢false}
+use mathlib.Core.Bool.{Bool, true, false, ◌||◌, ◌&&◌, true≢false}
 use mathlib.Core.List.{List, [], ◌∷◌, ◌++◌, map}
 use lib.ListN.{length}
 use Rattle.std.specs.Ordering.{is_eq}
@@ -9,6 +9,7 @@ use Rattle.std.specs.declared.cmp.Ordering.{Ordering}
 use Rattle.std.specs.declared.cmp.Ordering.TheVariants.{Less, Equal, Greater}
 use Rattle.order.specs.Lex.{lex_compare}
 use Rattle.order.proofs.Laws.{lex-equal-iff}
+use Rattle.text.proofs.Blocks.{both}
 use Rattle.format.specs.Lists.{same, is_in}
 use Rattle.format.specs.Admits.{All}
 
@@ -67,3 +68,13 @@ in-append k (x ∷ xs) ys = go (same k x) (in-append k xs ys)
 pub alike-each : {A B : Type 0} (f g : A → B) (xs : List A) → map f xs ≡ map g xs → All (λ x. f x ≡ g x) xs
 alike-each f g [] e = tt
 alike-each f g (x ∷ xs) e = (cc e, alike-each f g xs (cc e))
+
+-- the same as a test of answers tells it, which finds a row that is wrong sooner
+module _ {A B : Type 0} (same : B → B → Bool) (sound : (a b : B) → same a b ≡ true → a ≡ b) (f g : A → B) where
+  abbrev pub told : List A → Bool
+  told [] = true
+  told (x ∷ xs) = same (f x) (g x) && told xs
+
+  pub told_each : (xs : List A) → told xs ≡ true → All (λ x. f x ≡ g x) xs
+  told_each [] e = tt
+  told_each (x ∷ xs) e = let p = both _ _ e in (sound (f x) (g x) p.0, told_each xs p.1)

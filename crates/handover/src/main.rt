@@ -29,5 +29,5 @@ fn main(rt: HostRuntime) -> io::Result<()> {
     if MOST < manifest.len() {
         return println!(rt; "too long");
     }
-    print_units(&rt, state_manifest::units(manifest, 0, 2, &mut index))
+    print_units(&rt, calls::units(manifest, 0, 2, &mut index))
 }

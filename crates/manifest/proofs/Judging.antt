@@ -4,10 +4,9 @@ use native.Mathlib.Omega.{arith}
 use mathlib.Core.Path.{◌≡◌, refl, sym, ap, ◌∙◌, subst}
 use mathlib.Core.List.{List, [], ◌∷◌, ◌++◌, map}
 use lib.ListN.{length, take, length-append}
-use lib.Seq.{take_at, take-take}
 use borrow.Author.Tests.{le-leb}
 use Rattle.state.specs.Bytes.{AreBytes}
-use Rattle.std.specs.Prelude.{Result, Ok, Err}
+use Rattle.std.specs.Prelude.{Ok, Err}
 use Rattle.state.specs.Outcome.{got, refused, heed, said, refusal, Stepped}
 use Rattle.state.specs.declared.Question.{Question}
 use Rattle.state.specs.declared.Refusal.{Refusal}
@@ -28,7 +27,6 @@ use Rattle.questions.proofs.Chains.{said-no, said-yes}
 use Rattle.questions.proofs.Accepted.{Passed, yields-passed}
 use Rattle.questions.proofs.Numbers.{late-failing}
 use Rattle.state_layout.specs.Tables.{manifest_of, counts, table_start, room_start, Tabled, Leaves}
-use Rattle.state_layout.proofs.Indexed.{laid_of, starts-twelve, rows, start-le, start_there}
 use Rattle.state_manifest_codec.specs.Reads.{Reads}
 use Rattle.manifest.specs.Judges.{Judges}
 
@@ -85,30 +83,6 @@ module _ {s old new : List ℕ} {n : ℕ} (bytes : AreBytes s) {r : Stepped} (re
       }
 
 -- ---- the answer
--- a question over the whole, refused at the manifest's end
-abbrev pub located : ℕ → Result Unit Question → Result Unit (Refusal ℕ)
-located n (Ok u) = Ok u
-located n (Err q) = Err (record { question = q; at = n })
-
-pub located-no : (n : ℕ) (v : Result Unit Question) {m : Result Unit (Refusal ℕ)} {d : Refusal ℕ} → m ≡ located n v → m ≡ Err d → (q : Question) × (v ≡ Err q) × (d ≡ record { question = q; at = n })
-located-no n (Ok u) l e = cc (sym l ∙ e)
-located-no n (Err q) {d = d} l e =
-    let z : ◌≡◌ {A = Result Unit (Refusal ℕ)} (Err (record { question = q; at = n })) (Err d) = sym l ∙ e in
-    let i : d ≡ record { question = q; at = n } = cc in
-    (q, refl, i)
-
-pub located-yes : (n : ℕ) (v : Result Unit Question) {m : Result Unit (Refusal ℕ)} {u : Unit} → m ≡ located n v → m ≡ Ok u → v ≡ Ok tt
-located-yes n (Ok u) l e = refl
-located-yes n (Err q) l e = cc (sym l ∙ e)
-
--- the first words of the tables are the starts
-pub tabled-starts : {s index : List ℕ} → Tabled s index → (12 ≤ length index) × (take 12 index ≡ manifest_starts limit s)
-tabled-starts {s} {index} t =
-    let f : 12 ≤ room_start s = omega (arith, (rows (manifest_of s)).first, start-le (manifest_of s) 2 (omega arith)) in (
-      omega (arith, f, start_there (laid_of t) 13 (omega arith)),
-      sym (take-take 12 (room_start s) index f) ∙ ap (take 12) t.words ∙ take_at (manifest_starts limit s) (manifest_entries limit s) 12 (starts-twelve (laid_of t)),
-    )
-
 module _ {s old new : List ℕ} (revision : ℕ) {r : Stepped} (reads : Reads s r old new) where
   -- refused while reading
   pub judge-unread : {d : Refusal ℕ} → r ≡ Err d → Judges s revision r old new

@@ -1,3 +1,3 @@
--- `Judging`: what reading and asking come to. `Ending`: how a call ends.
+-- `Judging`: what reading and asking come to. `Counting`: the units of an accepted manifest.
 pub mod Judging
-pub mod Ending
+pub mod Counting

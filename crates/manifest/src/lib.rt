@@ -1,14 +1,26 @@
-// The entry points: what a call on a manifest answers, and what it leaves of the lent index.
+// A manifest that is judged: questions 1 to 32 in their order, what a call answers and leaves of the lent index, and the units.
 #![tactic(auto)]
 
-ghost use Rattle.std.specs.Prelude.{◌≡◌, cond, ◌++◌, ◌-◌, ◌≤◌, eqb, length, take, replicate};
+ghost use Rattle.std.specs.Prelude.{◌≡◌, cond, ◌++◌, ◌-◌, ◌≤◌, ◌^◌, eqb, leb, length, take, replicate};
+ghost use Rattle.state.specs.Outcome.{got, said};
 ghost use Rattle.questions.specs.Portability.{target_bound_classes};
-ghost use Rattle.questions.specs.Answers.{offset_at, outside, starts_of, decode_manifest, decoded_index};
+ghost use Rattle.questions.specs.Order.{first_failing};
+ghost use Rattle.questions.specs.Answers.{offset_at, outside, starts_of};
+ghost use Rattle.questions.specs.Units.{units_of, units_answer};
+ghost use Rattle.state_layout.specs.Tables.{Tabled, Leaves, manifest_of};
+ghost use Rattle.manifest.specs.Accepted.{Accepted};
 ghost use Rattle.manifest.specs.Judges.{Judges};
 
-use state::{Decoded, Question, Refusal, Starts, Step};
+use state::{Question, Refusal, Section, Starts, Step, Units};
+use state_declarations::validate_declarations;
+use state_index::keys::count_at;
+use state_io::validate_inputs;
+use state_layout::section_start;
 use state_manifest_codec::read_manifest;
-use state_manifest_validation::validate_manifest;
+use state_portability::validate_portability;
+use state_references::{validate_boundaries, validate_references};
+use state_slots::largest::state_words;
+use state_slots::validate_slots;
 use state_wire::offset;
 
 // The second and last question about lengths alone, the one about the index's. By document 01 refusals 1 and 2 stand at offset 0,
@@ -58,6 +70,22 @@ pub fn accepted(index: &mut [u32]) -> Starts
     starts
 }
 
+// Questions 11 to 32 over a manifest that was read, in document 01's order: yes to all, or the first that says no. `Tabled` is a clause of each
+// call: they are lent the index to write it, and a struct that keeps the clause would have to hold at each write.
+#[tactic(auto, using(questions::proofs::Chains::in_order), unfolding(questions::specs::Order::first_failing, questions::specs::Order::answers))]
+fn validate_manifest(s: &[u8], revision: u32, index: &mut [u32]) -> Result<(), Question>
+    requires { Tabled s.now index.old }
+    ensures value { result ≡ said (first_failing target_bound_classes revision (manifest_of s.now)) }
+    ensures leaves { Leaves s.now index.old index.new }
+{
+    validate_declarations(s, index)?;
+    validate_references(s, index)?;
+    validate_slots(s, index)?;
+    validate_boundaries(s, index)?;
+    validate_inputs(s, index)?;
+    validate_portability(s, revision, index)
+}
+
 // Questions 1 to 32 on positions.
 pub fn judge(s: &[u8], revision: u32, index: &mut [u32]) -> Step
     ensures { Judges s.now revision result index.old index.new }
@@ -70,14 +98,17 @@ pub fn judge(s: &[u8], revision: u32, index: &mut [u32]) -> Step
     Ok(end)
 }
 
-// Reads a manifest and asks all questions about it. An index of fewer than n ÷ 2 + 16 words is question 2.
-pub fn decode_manifest(bytes: &[u8], base: u64, revision: u32, index: &mut [u32]) -> Decoded
-    ensures value { result ≡ decode_manifest target_bound_classes bytes.now base revision index.old }
-    ensures index_after { index.new ≡ decoded_index target_bound_classes bytes.now revision index.old }
+// The units of an accepted manifest, whose starts are the first words of the index. Where they are above 2^64 − 1 the index is cleared.
+pub fn count_units(s: &[u8], index: &mut [u32]) -> Result<Units, Refusal<u64>>
+    requires { Accepted s.now index.old }
+    ensures value { result ≡ units_answer 0 (got (manifest_of s.now) 0) }
+    ensures index_after { index.new ≡ cond (leb (units_of (manifest_of s.now)) (2 ^ 64 - 1)) index.old (replicate (length index.old) 0) }
 {
-    // A match, since both ends change the index.
-    match judge(bytes, revision, index) {
-        Ok(_) => Ok(accepted(index)),
-        Err(refusal) => Err(refused(base, refusal, index)),
-    }
+    let words = state_words(s, section_start(index, Section::STATE_SLOTS));
+    // std has no From between usize and u64; both are 64 bits wide here.
+    let connectors = count_at(s, section_start(index, Section::CONNECTORS)) as u64;
+    let Some(units) = words.checked_mul(4).and_then(|w| w.checked_add(connectors)) else {
+        return Err(refused(0, Question(39).at(0), index));
+    };
+    Ok(Units { words, units })
 }

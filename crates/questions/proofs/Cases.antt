@@ -1,10 +1,14 @@
 -- Rows of the table in Rows.antt: manifests with the Rust's answers, for each of the questions 11 to 32. tools/question_rows.py prints the lists.
 use Prim.Native.Nat.{ℕ, ◌+◌, ◌*◌, ◌-◌}
 use Prim.Native.String.{String}
-use mathlib.Core.Bool.{cond}
-use mathlib.Core.List.{List, [], ◌∷◌}
+use mathlib.Core.Path.{◌≡◌, refl, ap₂}
+use mathlib.Core.Bool.{Bool, true, false, cond, ◌&&◌, false≢true}
+use mathlib.Core.List.{List, [], ◌∷◌, ◌++◌}
 use lib.ListN.{length, replicate}
 use lib.Dec.{ltb, eqb}
+use borrow.Author.Tests.{eqb-true}
+use Rattle.text.proofs.Blocks.{both}
+use Rattle.state.specs.Bytes.{bytes_of}
 use Rattle.std.specs.Prelude.{Result, Ok, Err}
 use Rattle.state.specs.Outcome.{refuses}
 use Rattle.state.specs.declared.Refusal.{Refusal}
@@ -41,6 +45,19 @@ abbrev pub answered : {A : Type 0} → Result A (Refusal ℕ) → Answered
 answered (Ok x) = Ok tt
 answered (Err d) = Err d
 
+-- whether two are one
+abbrev pub same_answer : Answered → Answered → Bool
+same_answer (Ok x) (Ok y) = true
+same_answer (Ok x) (Err e) = false
+same_answer (Err d) (Ok y) = false
+same_answer (Err d) (Err e) = eqb d.question.0 e.question.0 && eqb d.at e.at
+
+pub same-answer : (a b : Answered) → same_answer a b ≡ true → a ≡ b
+same-answer (Ok x) (Ok y) h = refl
+same-answer (Ok x) (Err e) h = absurd (false≢true h)
+same-answer (Err d) (Ok y) h = absurd (false≢true h)
+same-answer (Err d) (Err e) h = let p = both _ _ h in ap₂ (λ (q a : ℕ). refuses q a) (eqb-true _ _ p.0) (eqb-true _ _ p.1)
+
 pub record Row : Type 0 where
   pub bytes : List ℕ
   pub base : ℕ
@@ -64,6 +81,10 @@ refused_by q s = row (hex s) (refuses q (length (hex s)))
 
 abbrev pub revision1 : Row → Row
 revision1 r = row_at 0 1 r.bytes r.answer
+
+-- arch, os and a block of this class
+abbrev pub bound_by : String → Row
+bound_by class = row (hex "010100000061010000006f . 0100000000." ++ (bytes_of 4 (length (ascii class)) ++ (ascii class ++ hex "00...... . . 0100000000. . . . . . ."))) accepts
 
 -- ---- the rows
 abbrev pub accepted_rows : List Row
@@ -302,4 +323,24 @@ portability_rows =
     ∷ refused_by 32 "010100000061. . 0100000000.0d00000043444c2e5265616c732e53696e00...... . . 0100000000. . . . . . ."
     -- under revision 1: empty os without such a class
     ∷ revision1 (refused_by 32 "010100000061. . 0100000000..00...... . . 0100000000. . . . . . .")
+    ∷ []
+
+-- a target-bound class of each name
+abbrev pub bound_rows : List Row
+bound_rows =
+    bound_by "CDL.Psychrometrics.DewPoint_TDryBulPhi"
+    ∷ bound_by "CDL.Psychrometrics.SpecificEnthalpy_TDryBulPhi"
+    ∷ bound_by "CDL.Psychrometrics.WetBulb_TDryBulPhi"
+    ∷ bound_by "CDL.Reals.Acos"
+    ∷ bound_by "CDL.Reals.Asin"
+    ∷ bound_by "CDL.Reals.Atan"
+    ∷ bound_by "CDL.Reals.Atan2"
+    ∷ bound_by "CDL.Reals.Cos"
+    ∷ bound_by "CDL.Reals.Exp"
+    ∷ bound_by "CDL.Reals.Log"
+    ∷ bound_by "CDL.Reals.Log10"
+    ∷ bound_by "CDL.Reals.Sin"
+    ∷ bound_by "CDL.Reals.Sources.Sin"
+    ∷ bound_by "CDL.Reals.Tan"
+    ∷ bound_by "CDL.Utilities.SunRiseSet"
     ∷ []

@@ -7,6 +7,7 @@ use mathlib.Core.List.{List, [], ◌∷◌, ◌++◌, map}
 use Rattle.std.specs.Prelude.{Option, Some, None, Result, Ok, Err, ok_or}
 use Rattle.state.specs.Outcome.{said}
 use Rattle.state.specs.declared.Question.{Question}
+use Rattle.state.specs.declared.Refusal.{Refusal}
 use Rattle.format.specs.Admits.{All}
 use Rattle.questions.specs.Sets.{◌unless◌, first}
 
@@ -117,3 +118,20 @@ module _ {A : Type 0} (o : Option A) (q : Question) {r : Result A Question} (is 
       go : (o : Option A) → r ≡ ok_or o q → o ≡ Some x
       go (Some y) i = cc
       go None i = cc
+
+-- ---- a refusal with its place
+-- a question over the whole, refused at a position
+abbrev pub located : ℕ → Result Unit Question → Result Unit (Refusal ℕ)
+located n (Ok u) = Ok u
+located n (Err q) = Err (record { question = q; at = n })
+
+pub located-no : (n : ℕ) (v : Result Unit Question) {m : Result Unit (Refusal ℕ)} {d : Refusal ℕ} → m ≡ located n v → m ≡ Err d → (q : Question) × (v ≡ Err q) × (d ≡ record { question = q; at = n })
+located-no n (Ok u) l e = cc (sym l ∙ e)
+located-no n (Err q) {d = d} l e =
+    let z : ◌≡◌ {A = Result Unit (Refusal ℕ)} (Err (record { question = q; at = n })) (Err d) = sym l ∙ e in
+    let i : d ≡ record { question = q; at = n } = cc in
+    (q, refl, i)
+
+pub located-yes : (n : ℕ) (v : Result Unit Question) {m : Result Unit (Refusal ℕ)} {u : Unit} → m ≡ located n v → m ≡ Ok u → v ≡ Ok tt
+located-yes n (Ok u) l e = refl
+located-yes n (Err q) l e = cc (sym l ∙ e)

@@ -18,7 +18,7 @@ use Rattle.format.specs.Keys.{block_key, connector_key, owner, direction, port_i
 use Rattle.format.specs.Manifest.{value_type, value, members, params, connector_keys, block_head, block_rest, connector_rest, slot_rest, input_rest, portability, manifest}
 use Rattle.format.specs.Fields.{portability_of, enums_of, blocks_of, connectors_of, connections_of, schedule_of, connector_order_of, drivers_of, slots_of, external_inputs_of, boundary_outputs_of, input_definitions_of, portability_tag, target, enum_path, members_of, block_key_of, class_path, kind, state_revision, state_len, params_of, inputs, outputs, connector_key_of, path, value_type_of, source, sink, scheduled, ordered, driven, driver, slot_key, slot_offset, slot_length, external_input, output_name, output_source, input_path, input_type, minimum, maximum, type_tag, value_tag, type_class, value_class, ordinal, given}
 use Rattle.format.specs.Reading.{index_words, read_sections, read_manifest}
-use Rattle.format.proofs.Lists.{alike-each}
+use Rattle.format.proofs.Lists.{alike-each, told_each}
 use Rattle.questions.specs.Sets.{all, any, keep, gather, all_in, same_set, each_once, count_different, ◌unless◌, first}
 use Rattle.questions.specs.Declarations.{block_names, connector_names, has_member, is_stateful, kind_holds, in_range, enum_holds, params_hold, port_holds, ports_hold, block_answer, port_names, block_ports, ports_are, param_classes, classes_are, declarations}
 use Rattle.questions.specs.References.{is_known, is_directed, joins, schedule_holds, order_holds, drives, drivers_hold, references, external_names, externals_hold, outputs_hold, boundaries}
@@ -28,7 +28,7 @@ use Rattle.questions.specs.Portability.{ascii, target_bound_classes, some_bound,
 use Rattle.questions.specs.Order.{answers, first_failing}
 use Rattle.questions.specs.Answers.{judge, decode_manifest}
 use Rattle.questions.specs.Units.{word_total, units_of, units_answer}
-use Rattle.questions.proofs.Cases.{Answered, accepts, answered, zeros, digits, pairs, hex, Row, row_at, row, accepted, accepted_rows, declaration_rows, reference_rows, slot_rows, boundary_rows, input_rows, portability_rows}
+use Rattle.questions.proofs.Cases.{Answered, accepts, answered, same_answer, same-answer, zeros, digits, pairs, hex, Row, row_at, row, accepted, accepted_rows, declaration_rows, reference_rows, slot_rows, boundary_rows, input_rows, portability_rows, bound_rows}
 
 -- ---- "Entries checked"
 -- "P: portable, one authored block with empty key and class, stateful, revision 1, length 1, no lists, scheduled, slot at 0: 105 bytes"
@@ -60,7 +60,7 @@ entry_rows =
 
 -- ---- all of them
 abbrev rows : List Row
-rows = entry_rows ++ accepted_rows ++ declaration_rows ++ reference_rows ++ slot_rows ++ boundary_rows ++ input_rows ++ portability_rows
+rows = entry_rows ++ accepted_rows ++ declaration_rows ++ reference_rows ++ slot_rows ++ boundary_rows ++ input_rows ++ portability_rows ++ bound_rows
 
 -- ---- words and units: "P .. Accepted, 1 word, 4 units"; 39 above 2^64 − 1
 record Figure : Type 0 where
@@ -70,6 +70,9 @@ record Figure : Type 0 where
 abbrev costs : (words units : ℕ) → Result Units (Refusal ℕ)
 costs w u = Ok (record { words = w; units = u })
 
+abbrev connected : List ℕ
+connected = hex "00 . 0100000000..00....0100000000.00.0100000000.01. 0200000000.00...00000000.01...000000 0100000000.01.00.00. 0100000000. 0200000000.00.00.01. 0200000000.00.00.00.00.01.00.01. . . . ."
+
 abbrev figures : List Figure
 figures =
     record { bytes = zeros 45; figure = costs 0 0 }
@@ -78,6 +81,8 @@ figures =
     ∷ record { bytes = hex "00 . 0100000000..0101000000ffffffffffffff3f... . . 0100000000. . . 0100000000...ffffffffffffff3f . . ."; figure = costs (2 ^ 62 - 1) (2 ^ 64 - 4) }
     ∷ record { bytes = hex "00 . 0100000000..01010000000000000000000040... . . 0100000000. . . 0100000000...0000000000000040 . . ."; figure = refuses 39 0 }
     ∷ record { bytes = zeros 44; figure = refuses 3 41 }
+    -- an output connected to an input: two connectors
+    ∷ record { bytes = connected; figure = costs 0 2 }
     ∷ []
 
 -- what a call for units answers
@@ -96,4 +101,4 @@ opened = tt
 -- each row is answered as it says
 rows-hold : All (λ (r : Row). answer_to r ≡ r.answer) rows × All (λ (f : Figure). figure_of f ≡ f.figure) figures
 unfolding opened
-rows-hold = (alike-each answer_to (λ (r : Row). r.answer) rows refl, alike-each figure_of (λ (f : Figure). f.figure) figures refl)
+rows-hold = (told_each same_answer same-answer answer_to (λ (r : Row). r.answer) rows refl, alike-each figure_of (λ (f : Figure). f.figure) figures refl)

@@ -164,20 +164,20 @@ fn print_verdict(
 
 fn decode(rt: &impl Print, call: Call) -> io::Result<()> {
     let index = call.index;
-    let decoded = manifest::decode_manifest(call.bytes, call.base, call.revision, index);
+    let decoded = calls::decode_manifest(call.bytes, call.base, call.revision, index);
     print_decoded(rt, decoded, index)
 }
 
 fn decode_tail(rt: &impl Print, call: Call, tail: &[u8]) -> io::Result<()> {
     let index = call.index;
-    let decoded = state_codec::decode_snapshot(call.bytes, tail, call.base, call.revision, index);
+    let decoded = calls::decode_tail(call.bytes, tail, call.base, call.revision, index);
     print_decoded(rt, decoded, index)
 }
 
 fn compare(rt: &impl Print, snapshot: Call, target: Call) -> io::Result<()> {
     let index = snapshot.index;
     let index2 = target.index;
-    let verdict = state_manifest::compare_manifests(
+    let verdict = calls::compare_manifests(
         snapshot.bytes,
         snapshot.base,
         snapshot.revision,

@@ -2,7 +2,8 @@
 use Prim.Native.Nat.{ℕ, zero, suc}
 use mathlib.Core.Path.{◌≡◌, refl, sym, ap, subst, ◌∙◌}
 use mathlib.Core.Bool.{Bool, true, false}
-use Rattle.std.specs.Prelude.{Ok, Err}
+use Rattle.std.specs.Prelude.{Result, Ok, Err}
+use Rattle.std.specs.Result.{IsErrAnd}
 use Rattle.state.specs.declared.Refusal.{Refusal}
 use Rattle.state.specs.Outcome.{Outcome, got, refused, bind, ask, heed, refusal, refuses, Stepped, NumberRead, step_of, field_of, step_of_field}
 
@@ -88,3 +89,8 @@ step-yields nothing e h = cc
 
 pub value-yields : {P : ℕ → ℕ → Type 0} {o : Outcome ℕ} {f : NumberRead} {v m : ℕ} → Yields P o → f ≡ field_of o → f ≡ Ok (v, m) → P v m
 value-yields {P = P} {o = o} {v = v} {m = m} y e h = yielded (subst (Yields P) (value-got o e h) y)
+
+-- what `?` passes on
+pub passed_on : {T E : Type 0} {r : Result T E} {d : E} → IsErrAnd r (λ e. e ≡ d) → r ≡ Err d
+passed_on {r = Ok n} h = absurd h
+passed_on {r = Err e} h = ap Err h

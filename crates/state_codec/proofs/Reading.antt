@@ -21,11 +21,10 @@ use Rattle.questions.specs.Sets.{all}
 use Rattle.questions.specs.Slots.{end_fits}
 use Rattle.questions.specs.Units.{word_total}
 use Rattle.tail.specs.Tail.{values, values_answer, read_words, read_flags, read_tail}
-use Rattle.state_layout.specs.Tables.{manifest_of}
+use Rattle.state_layout.specs.Tables.{manifest_of, Started}
 use Rattle.state_layout.proofs.Tables.{limit}
-use Rattle.manifest.proofs.Judging.{tabled-starts}
-use Rattle.state_manifest.specs.Accepted.{Accepted}
-use Rattle.state_manifest.proofs.Sections.{slots-there}
+use Rattle.state_layout.proofs.Starts.{slots-there}
+use Rattle.state_layout.proofs.Indexed.{laid_of, laid_started}
 use Rattle.state_codec.specs.Listed.{Asked}
 
 -- what was read is the value that the bytes spell
@@ -35,18 +34,16 @@ read-spelled f t at e i = let y = step-yields (value-got limit t f at) e i in rw
 
 -- ---- the slots of the manifest
 module _ {s index : List ℕ} (a : Asked s index) where
-  accepted : Accepted s index
-  accepted =
-      let f = tabled-starts a.tabled in
-      record { well = a.tabled.well; fits = a.fits; long = f.0; starts = f.1 }
+  started : Started s index
+  started = laid_started (laid_of a.tabled)
 
   -- where the slots start is word 8
   pub starts-long : 8 < length index
-  starts-long = omega (arith, accepted.long)
+  starts-long = omega (arith, started.long)
 
   -- no slot ends above 2^64 − 1
   pub slots-fit : {x : ℕ} → x ≡ get_or index 8 0 → all end_fits (value_at (counted state_slots) s x) ≡ true
-  slots-fit e = rw (e, ← slots-there accepted) a.fits
+  slots-fit e = rw (e, ← slots-there started) a.fits
 
   -- ---- the tail
   module _ (t : List ℕ) {r : Stepped} (er : r ≡ scan limit (counted values) t 0) where
@@ -76,7 +73,7 @@ module _ {s index : List ℕ} (a : Asked s index) where
       module _ {u : Unit} (yes : Ok u ≡ said asks) {x k : ℕ} (ex : x ≡ get_or index 8 0) (ek : k ≡ word_total (value_at (counted state_slots) s x))
           {w : Stepped} (ew : w ≡ step_of (read_words k t p)) where
         total : word_total (slots_of (manifest_of s)) ≡ k
-        total = rw (slots-there accepted, ← ex) (sym ek)
+        total = rw (slots-there started, ← ex) (sym ek)
 
         none : asks ≡ 0
         none = said-yes asks (sym yes)

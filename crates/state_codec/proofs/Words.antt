@@ -9,7 +9,7 @@ use borrow.Author.Tests.{le-leb}
 use Rattle.std.specs.Prelude.{Ok, Err}
 use Rattle.state.specs.Outcome.{got, step_of, field_of, NumberRead}
 use Rattle.state.proofs.Outcome.{value-got, value-refused, step-yields, Yields, this, always, yields-bind, asked, step-ask}
-use Rattle.state_manifest_codec.proofs.Reading.{chosen, step-chosen, count_is}
+use Rattle.state_sections.proofs.Reading.{chosen, step-chosen, count_is}
 use Rattle.state_wire.specs.Fields.{read_span, read_number, read_count}
 use Rattle.format.specs.Format.{El, free, done, number, entries, read, scan, scan_entries}
 use Rattle.format.proofs.Entries.{scan-entries, forgets, counted-fits}

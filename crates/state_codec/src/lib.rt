@@ -1,4 +1,4 @@
-// A manifest and the tail behind it: connector values, state words, flags.
+// The tail behind a manifest: connector values, state words, flags.
 #![tactic(auto)]
 
 mod values;
@@ -6,17 +6,14 @@ mod values;
 ghost use Rattle.std.specs.Prelude.{◌≡◌, not, ◌+◌, leb};
 ghost use Rattle.state.specs.Outcome.{step_of};
 ghost use Rattle.state_wire.specs.Fields.{max_snapshot_bytes};
-ghost use Rattle.questions.specs.Portability.{target_bound_classes};
 ghost use Rattle.tail.specs.Tail.{read_words, read_flags, read_tail};
-ghost use Rattle.tail.specs.Answers.{decode_snapshot, snapshot_index};
 ghost use Rattle.state_layout.specs.Tables.{manifest_of};
 ghost use Rattle.state_codec.specs.Listed.{Asked};
 
-use manifest::{accepted, judge, refused};
-use state::{Decoded, MAX_SNAPSHOT_BYTES, Question, Section, Step};
-use state_index::word_at;
-use state_manifest::state_words;
-use state_wire::{offset, read_count, read_number, step_of};
+use state::{MAX_SNAPSHOT_BYTES, Question, Section, Step};
+use state_layout::section_start;
+use state_slots::largest::state_words;
+use state_wire::{read_count, read_number, step_of};
 use values::{read_values, validate_values};
 
 // The word count and the words, and question 37. The words are passed over: the count was held against what is left.
@@ -55,7 +52,7 @@ fn read_flags(t: &[u8], at: usize) -> Step
 }
 
 // The tail of an accepted manifest, whose tables stand in the index.
-fn read_tail(s: &[u8], index: &[u32], t: &[u8]) -> Step
+pub fn read_tail(s: &[u8], index: &[u32], t: &[u8]) -> Step
     requires asked { Asked s.now index.now }
     ensures { result ≡ step_of (read_tail (manifest_of s.now) t.now) }
 {
@@ -64,7 +61,7 @@ fn read_tail(s: &[u8], index: &[u32], t: &[u8]) -> Step
         return values;
     };
     validate_values(s, index, t).map_err(|question| question.at(p))?;
-    let slots = word_at(index, usize::from(Section::STATE_SLOTS) - 1);
+    let slots = section_start(index, Section::STATE_SLOTS);
     let words = read_words(t, p, state_words(s, slots));
     let Ok(q) = words else {
         return words;
@@ -73,31 +70,8 @@ fn read_tail(s: &[u8], index: &[u32], t: &[u8]) -> Step
 }
 
 // Question 1 of a manifest and its tail.
-fn too_long(n: usize, t: usize) -> bool
+pub fn too_long(n: usize, t: usize) -> bool
     ensures { result ≡ not (leb (n + t) max_snapshot_bytes) }
 {
     MAX_SNAPSHOT_BYTES < n.saturating_add(t)
-}
-
-// Reads a manifest and the tail behind it and asks all questions about them. The index is the manifest's, and left as `decode_manifest` leaves it.
-pub fn decode_snapshot(
-    bytes: &[u8],
-    tail: &[u8],
-    base: u64,
-    revision: u32,
-    index: &mut [u32],
-) -> Decoded
-    ensures value { result ≡ decode_snapshot target_bound_classes bytes.now tail.now base revision index.old }
-    ensures index_after { index.new ≡ snapshot_index target_bound_classes bytes.now tail.now revision index.old }
-{
-    if too_long(bytes.len(), tail.len()) {
-        return Err(refused(base, Question(1).at(0), index));
-    }
-    if let Err(refusal) = judge(bytes, revision, index) {
-        return Err(refused(base, refusal, index));
-    }
-    match read_tail(bytes, index, tail) {
-        Ok(_) => Ok(accepted(index)),
-        Err(refusal) => Err(refused(offset(base, bytes.len()), refusal, index)),
-    }
 }

@@ -20,8 +20,8 @@ use state_key_order::read_connector_key;
 use state_layout::ends::{connector_type_at, value_end};
 use state_layout::keys::{Classes, Connectors, validate_value_enum};
 use state_layout::{Manifest, room_start, same_type};
-use state_manifest_codec::lists::read_ascending;
-use state_manifest_codec::values::read_value;
+use state_sections::lists::read_ascending;
+use state_sections::values::read_value;
 
 // The values, each above the one before it.
 pub(crate) fn read_values(t: &[u8]) -> Step

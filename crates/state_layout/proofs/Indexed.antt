@@ -3,8 +3,8 @@ use Prim.Native.Nat.{ℕ, zero, suc, ◌+◌, ◌*◌, ◌-◌, ◌^◌, ◌≤�
 use native.Mathlib.Omega.{arith}
 use mathlib.Core.Path.{◌≡◌, refl, sym, ap, ◌∙◌}
 use mathlib.Core.List.{List, [], ◌∷◌, ◌++◌, map}
-use lib.ListN.{length, get_or, take, drop, get_or-append, length-take, length-drop, length-append}
-use lib.Seq.{take_at, drop_at, take-take, get_or-take}
+use lib.ListN.{length, get_or, take, drop, length-take, length-drop, length-append}
+use lib.Seq.{take_at, drop_at, take-take}
 use Rattle.state.specs.Bytes.{span}
 use Rattle.state.proofs.Bytes.{span-length}
 use Rattle.format.specs.Format.{El}
@@ -18,7 +18,8 @@ use Rattle.format.proofs.Sizes.{sections-take}
 use Rattle.format.proofs.Values.{values_length, well-then}
 use Rattle.state_index.proofs.Lists.{slice-run}
 use Rattle.questions.specs.Sets.{sum}
-use Rattle.state_layout.specs.Tables.{manifest_of, counts, table_start, table_of, room_start, room_end, Laid, Tabled, Table, Leaves}
+use Rattle.state_layout.specs.Tables.{manifest_of, counts, table_start, table_of, room_start, room_end, Laid, Tabled, Started, Table, Leaves}
+use Rattle.state_layout.proofs.Starts.{starts-twelve, starts-list, word-there}
 use Rattle.state_layout.proofs.Tables.{limit, Tables, lists-tables, pick, picked, span-after, table-picked}
 
 -- ---- words of the index
@@ -43,16 +44,12 @@ module _ {s index : List ℕ} (t : Laid s index) where
       let i : end_at limit portability s 0 ≡ past portability s 0 = end-got limit portability s 0 p.0.reads in
       rw i (lists-tables s t.bytes lists (past portability s 0) p.1)
 
-  pub starts-twelve : length (manifest_starts limit s) ≡ 12
-  unfolding manifest_starts section_starts
-  starts-twelve = refl
-
   entries-span : (a b : ℕ) → 12 + b ≤ room_start s → span index (12 + a) (12 + b) ≡ span (manifest_entries limit s) a b
   entries-span a b h =
       sym (span-front index (room_start s) (12 + a) (12 + b) h)
       ∙ ap (λ l. span l (12 + a) (12 + b)) t.words
       ∙ span-after (manifest_starts limit s ++ manifest_entries limit s) 12 a b
-      ∙ ap (λ l. span l a b) (drop_at (manifest_starts limit s) (manifest_entries limit s) 12 starts-twelve)
+      ∙ ap (λ l. span l a b) (drop_at (manifest_starts limit s) (manifest_entries limit s) 12 (starts-twelve s))
 
   -- the words of the list at a place
   table_at : (i : ℕ) → i < 11 → unfold manifest in Table (pick lists i) s (span index (12 + sum (take i (counts lists (manifest_of s).1))) (12 + sum (take (suc i) (counts lists (manifest_of s).1)))) (picked lists (manifest_of s).1 i)
@@ -165,6 +162,17 @@ room {s} {index} t = half (length s) (length index) _ t.long (sizes t.well t.who
 pub laid_of : {s index : List ℕ} → Tabled s index → Laid s index
 laid_of t = record { bytes = t.bytes; short = t.short; well = t.well; whole = t.whole; there = omega (arith, room t); words = t.words }
 
+-- the starts are the first words
+pub laid_started : {s index : List ℕ} → Laid s index → Started s index
+laid_started {s} {index} t =
+    let f : 12 ≤ room_start s = omega (arith, all-rows (manifest_of s)) in
+    record {
+      well = t.well;
+      long = omega (arith, f, t.there);
+      starts =
+          sym (take-take 12 (room_start s) index f) ∙ ap (take 12) t.words ∙ take_at (manifest_starts limit s) (manifest_entries limit s) 12 (starts-twelve s);
+    }
+
 -- split off from the room behind them
 pub laid_front : {s index : List ℕ} → Tabled s index → Laid s (take (room_start s) index)
 laid_front {s} {index} t = record {
@@ -239,19 +247,6 @@ module _ {s index : List ℕ} where
   pub reach_start : (section : ℕ) → Laid s index → section ≤ 13 → Reaching s index section 12 2
   reach_start section t h = record { laid = t; bound = h; from = omega arith; below = omega arith; is = sym (rows (manifest_of s)).first }
 
-  starts-list : Laid s index → (i : ℕ) → get_or (manifest_starts limit s) (suc i) 0 ≡ get_or (section_starts limit (map counted lists) s (past portability s 0)) i 0
-  unfolding manifest manifest_starts section_starts
-  starts-list t i =
-      ap (λ (q : ℕ). get_or (section_starts limit (map counted lists) s q) i 0)
-      (end-got limit portability s 0 (well-then limit s portability (sequence (map counted lists)) 0 t.well).0.reads)
-
-  word-there : Laid s index → (i : ℕ) → i < 11 → get_or index (suc i) 0 ≡ get_or (section_starts limit (map counted lists) s (past portability s 0)) i 0
-  word-there t i h =
-      sym (get_or-take (room_start s) index (suc i) 0 (omega (arith, all-rows (manifest_of s))))
-      ∙ ap (λ l. get_or l (suc i) 0) t.words
-      ∙ get_or-append (manifest_starts limit s) (manifest_entries limit s) 0 (suc i) (omega (arith, starts-twelve t))
-      ∙ starts-list t i
-
   -- the section whose place is i among the lists counts as many entries as its table has words
   count-there : Laid s index → (i : ℕ) → i < 11 → table_start (3 + i) (manifest_of s) ≡ table_start (2 + i) (manifest_of s) + number_at 4 s (get_or index (suc i) 0)
   unfolding manifest table_start value_at
@@ -259,7 +254,7 @@ module _ {s index : List ℕ} where
       let c = lists-counts s lists (past portability s 0) (well-then limit s portability (sequence (map counted lists)) 0 t.well).1 i (omega arith) in
       let a : 3 + i - 2 ≡ suc i = omega arith in
       let b : 2 + i - 2 ≡ i = omega arith in
-      rw (a, b, word-there t i h, ← c) (ap (λ (x : ℕ). 12 + x) (sum-next (counts lists (manifest_of s).1) i) ∙ omega arith)
+      rw (a, b, ← word-there (laid_started t) (suc i) (omega arith), starts-list s t.well i, ← c) (ap (λ (x : ℕ). 12 + x) (sum-next (counts lists (manifest_of s).1) i) ∙ omega arith)
 
   pub reach_next : {section w k p n : ℕ} → Reaching s index section w k → k < section → p ≡ get_or index (k - 1) 0 → n ≡ number_at 4 s p → Reaching s index section (w + n) (k + 1)
   reach_next {section} {w} {k} {p} {n} r h e f =

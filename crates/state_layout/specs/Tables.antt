@@ -58,6 +58,12 @@ pub record Tabled (s index : List ℕ) : Type 0 where
   pub words : take (room_start s) index ≡ manifest_starts max_snapshot_bytes s ++ manifest_entries max_snapshot_bytes s
   pub long : index_words (length s) ≤ length index
 
+-- words of which the first twelve are the starts of the sections of a manifest that was read, as acceptance leaves the index
+pub record Started (s index : List ℕ) : Type 0 where
+  pub well : Well max_snapshot_bytes manifest s 0
+  pub long : 12 ≤ length index
+  pub starts : take 12 index ≡ manifest_starts max_snapshot_bytes s
+
 -- the entries of a section: each was read at its word, and their keys stand as the section's rule asks
 pub record Table (e : Section) (s ps : List ℕ) (vs : List (Entry e)) : Type 0 where
   pub values : map (value_at (entry e) s) ps ≡ vs

@@ -65,7 +65,7 @@ pub fn optional_text_end(s: &[u8], at: usize) -> usize
     optional_end(s, at, text_end)
 }
 
-// Of a counted list, entry by entry. Four walks elsewhere have its three lines, in state_declarations, state_codec and state_manifest: each carries
+// Of a counted list, entry by entry. Four walks elsewhere have its three lines, in state_declarations, state_codec and state_comparison: each carries
 // something else along, and a fold that is handed it, with its law, is longer than they are.
 #[tactic(auto, using(crate::proofs::Choosing::list_start, crate::proofs::Choosing::list_next, crate::proofs::Choosing::list_end))]
 fn list_end<F: Fn(&[u8], usize) -> usize>(s: &[u8], at: usize, entry_end: F) -> usize

@@ -5,7 +5,7 @@ pub mod ends;
 mod hints;
 pub mod keys;
 
-ghost use Rattle.std.specs.Prelude.{◌≡◌, ◌≤◌, suc};
+ghost use Rattle.std.specs.Prelude.{◌≡◌, ◌≤◌, ◌-◌, suc, length, get_or};
 ghost use Rattle.format.specs.Manifest.{value_type};
 ghost use Rattle.format.specs.Values.{value_at};
 ghost use Rattle.questions.specs.Inputs.{same_type};
@@ -29,6 +29,14 @@ pub fn same_type(s: &[u8], a: usize, t: &[u8], b: usize) -> bool
             || same_bytes(text_part(s, ahead(s, a, 1)), text_part(t, ahead(t, b, 1))))
 }
 
+// Where a section starts: a word in front of the tables, and of the index after acceptance.
+pub fn section_start(starts: &[u32], section: u8) -> usize
+    requires { (1 ≤ section) × (section ≤ length starts.now) }
+    ensures { result ≡ get_or starts.now (section - 1) 0 }
+{
+    word_at(starts, usize::from(section) - 1)
+}
+
 // From which word of the index on the entries of a section stand; behind the last one's the room begins.
 #[tactic(auto, using(crate::proofs::Indexed::reach_start, crate::proofs::Indexed::reach_next, crate::proofs::Indexed::reach_end))]
 fn start_of(s: &[u8], index: &[u32], section: u8) -> usize
@@ -39,7 +47,7 @@ fn start_of(s: &[u8], index: &[u32], section: u8) -> usize
     // As a `sum` it would have to be shown besides that eleven numbers of 32 bits fit, and be no plainer.
     let mut w = 12;
     for k in Section::ENUMS..section {
-        w += count_at(s, word_at(index, usize::from(k) - 1));
+        w += count_at(s, section_start(index, k));
     }
     w
 }

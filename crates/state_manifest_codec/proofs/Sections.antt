@@ -17,9 +17,10 @@ use Rattle.format.specs.Places.{count_at, end_of, end_at, starts, section_starts
 use Rattle.format.proofs.Bounds.{list-takes, list_counts, next-within}
 use Rattle.format.proofs.Places.{starts-length}
 use Rattle.format.proofs.Steps.{scan-then, then-stop, done-step}
-use Rattle.state_manifest_codec.specs.Tables.{Room, Space, Fills, Lists}
+use Rattle.state_sections.specs.Tables.{Space, Lists}
+use Rattle.state_sections.proofs.Laid.{key-least}
+use Rattle.state_manifest_codec.specs.Filled.{Room, Fills}
 use Rattle.state_manifest_codec.proofs.Filling.{fills-lent, fills-before, fills-stop}
-use Rattle.state_manifest_codec.proofs.Laid.{key-least}
 
 -- the sections from number n on
 abbrev later : ℕ → List Section

@@ -17,7 +17,7 @@ use Rattle.format.specs.Manifest.{manifest}
 use Rattle.format.specs.Places.{manifest_starts, manifest_entries}
 use Rattle.format.specs.Reading.{index_words, read_sections, read_manifest}
 use Rattle.format.proofs.Refusals.{Late, late-read, late-question}
-use Rattle.state_manifest_codec.specs.Tables.{Fills}
+use Rattle.state_manifest_codec.specs.Filled.{Fills}
 use Rattle.state_manifest_codec.specs.Reads.{Reads}
 
 module _ (s old : List ℕ) where

@@ -1,4 +1,2 @@
-pub mod Tables
-pub mod Layouts
-pub mod Readers
+pub mod Filled
 pub mod Reads

@@ -1,24 +1,18 @@
 // Reads a manifest's twelve sections, questions 1 to 10, and keeps where its entries start in the lent index.
 #![tactic(auto)]
 
-mod entries;
-mod layouts;
-pub mod lists;
-mod tables;
-pub mod values;
-
 ghost use Rattle.std.specs.Prelude.{◌++◌};
 ghost use Rattle.state_wire.specs.Fields.{max_snapshot_bytes};
 ghost use Rattle.format.specs.Format.{scan};
 ghost use Rattle.format.specs.Manifest.{manifest};
 ghost use Rattle.format.specs.Places.{manifest_starts, manifest_entries};
-ghost use Rattle.state_manifest_codec.specs.Tables.{Room, Fills};
+ghost use Rattle.state_manifest_codec.specs.Filled.{Room, Fills};
 ghost use Rattle.state_manifest_codec.specs.Reads.{Reads};
 
 use state::{MAX_SNAPSHOT_BYTES, Question, Section, Step};
+use state_sections::tables::read_list;
+use state_sections::values::read_portability;
 use state_wire::number_at;
-use tables::read_list;
-use values::read_portability;
 
 // The twelve sections: where they start goes into the first twelve words, where their entries start into the words after these.
 fn read_sections(s: &[u8], index: &mut [u32]) -> Step

@@ -1,6 +1,8 @@
 // Questions 21 to 24: the state words that slots hold.
 #![tactic(auto)]
 
+pub mod largest;
+
 ghost use Rattle.std.specs.Prelude.{ℕ, ◌≡◌, map, ◌^◌, ◌<◌, ◌≤◌, length};
 ghost use Rattle.std.specs.Slice.Iter.{iter_rest};
 ghost use Rattle.state.specs.Outcome.{said};

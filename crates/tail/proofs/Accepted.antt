@@ -28,7 +28,7 @@ use Rattle.verdict.specs.Demand3.{state_words}
 use Rattle.verdict.proofs.Words.{words-held}
 use Rattle.verdict.proofs.Unreachable.{AllYes, accepted-yes}
 use Rattle.tail.specs.Tail.{values, words, flags, value_key, value_of, type_is, value_answer, values_answer}
-use Rattle.tail.specs.Answers.{judge_snapshot}
+use Rattle.tail.specs.Answers.{judge_tail}
 use Rattle.tail.proofs.Tells.{word_count, no_flags, TailRead, snapshot-tells}
 use Rattle.tail.proofs.Unreachable.{class-listed, value_names, keys-same}
 
@@ -83,7 +83,7 @@ module _ (t : List ℕ) (bytes : AreBytes t) {m : El manifest} (r : TailRead m t
 
 -- an accepted snapshot is such a one
 pub snapshot-holds : (bound : List (List ℕ)) (revision : ℕ) (s t : List ℕ) (w : ℕ) → AreBytes s → AreBytes t → {m : El manifest} {n : ℕ}
-    → judge_snapshot bound revision s t w ≡ got m n → SnapshotHolds m t
+    → judge_tail bound revision s t w ≡ got m n → SnapshotHolds m t
 snapshot-holds bound revision s t w bs bt {m} e =
     let a = snapshot-tells bound revision s t w e in
     let r : TailRead m t (length t) = a.1 in

@@ -7,12 +7,12 @@ use Rattle.state.specs.Outcome.{refuses}
 use Rattle.format.specs.Format.{scan}
 use Rattle.format.specs.Admits.{All}
 use Rattle.format.specs.Places.{section_starts, manifest_starts}
-use Rattle.format.proofs.Lists.{alike-each}
+use Rattle.format.proofs.Lists.{told_each}
 use Rattle.questions.specs.Portability.{target_bound_classes}
-use Rattle.questions.proofs.Cases.{Answered, accepts, answered, zeros, hex}
+use Rattle.questions.proofs.Cases.{Answered, accepts, answered, same_answer, same-answer, zeros, hex}
 use Rattle.questions.proofs.Rows.{opened}
 use Rattle.tail.specs.Tail.{words, flags, value_key, value_of, type_is, value_answer, values_answer, read_words, read_flags, read_tail}
-use Rattle.tail.specs.Answers.{judge_snapshot, decode_snapshot, snapshot_index}
+use Rattle.tail.specs.Answers.{judge_tail, decode_tail, tail_index}
 use Rattle.tail.proofs.Cases.{Row, row_at, accepted_rows, value_rows, word_rows, field_rows, manifest_rows}
 
 -- "P: portable, one authored block with empty key and class, stateful, revision 1, length 1, no lists, scheduled, slot at 0"
@@ -46,21 +46,21 @@ rows = entry_rows ++ accepted_rows ++ value_rows ++ word_rows ++ field_rows ++ m
 
 -- what a call answers
 abbrev answer_to : Row → Answered
-answer_to r = answered (decode_snapshot target_bound_classes r.manifest r.tail r.base r.revision (replicate r.index 0))
+answer_to r = answered (decode_tail target_bound_classes r.manifest r.tail r.base r.revision (replicate r.index 0))
 
 -- to unfold this is to unfold all that an answer and an index are computed by
 unfoldable computed : Unit {0}
-unfolding opened words flags value_key value_of type_is value_answer values_answer read_words read_flags read_tail judge_snapshot decode_snapshot snapshot_index manifest_starts section_starts scan
+unfolding opened words flags value_key value_of type_is value_answer values_answer read_words read_flags read_tail judge_tail decode_tail tail_index manifest_starts section_starts scan
 computed = tt
 
 -- each row is answered as it says
 rows-hold : All (λ (r : Row). answer_to r ≡ r.answer) rows
 unfolding computed
-rows-hold = alike-each answer_to (λ (r : Row). r.answer) rows refl
+rows-hold = told_each same_answer same-answer answer_to (λ (r : Row). r.answer) rows refl
 
 -- ---- the index at the end, where all its words were 7: the starts and zeros, cleared, or untouched
 abbrev left_of : (index : ℕ) → (tail : List ℕ) → List ℕ
-left_of n t = snapshot_index target_bound_classes P t 2 (replicate n 7)
+left_of n t = tail_index target_bound_classes P t 2 (replicate n 7)
 
 abbrev starts : List ℕ
 starts = 0 ∷ 1 ∷ 5 ∷ 43 ∷ 47 ∷ 51 ∷ 60 ∷ 64 ∷ 68 ∷ 93 ∷ 97 ∷ 101 ∷ []

@@ -21,7 +21,7 @@ use Rattle.questions.specs.Units.{word_total}
 use Rattle.questions.proofs.Numbers.{Of, unless-of, first_of, all_of, of-inside}
 use Rattle.questions.proofs.Accepted.{judge-tells, decoded-got}
 use Rattle.tail.specs.Tail.{values, words, flags, value_answer, values_answer, read_words, read_flags, read_tail}
-use Rattle.tail.specs.Answers.{behind, judge_snapshot, decode_snapshot}
+use Rattle.tail.specs.Answers.{behind, judge_tail, decode_tail}
 
 -- ---- which questions a tail is asked: none before 3
 -- 34 to 36 of a value; 33, and those of each value
@@ -49,13 +49,13 @@ late-tail m t =
   where
     words-late : (at : ℕ) → Late (read_words (word_total (slots_of m)) t at)
     words-late at =
-        late-bind (late-read t max_snapshot_bytes words at) λ ws n. late-ask (eqb (length ws) (word_total (slots_of m))) 37 at (omega arith) read-so
+        late-bind (late-read t max_snapshot_bytes words at) λ ws n. late-ask _ 37 _ (omega arith) read-so
 
     flags-late : (at : ℕ) → Late (read_flags t at)
     flags-late at =
         late-bind (late-read t max_snapshot_bytes flags at) λ f n.
-        late-ask (eqb f 0) 38 at (omega arith) (
-        late-ask (eqb n (length t)) 10 n (omega arith) read-so)
+        late-ask _ 38 _ (omega arith) (
+        late-ask _ 10 _ (omega arith) read-so)
 
 -- a tail is never refused with 1 or 2
 pub tail-late : (m : El manifest) (t : List ℕ) {q p : ℕ} → read_tail m t ≡ refused q p → 3 ≤ q
@@ -138,9 +138,9 @@ yields-behind n nothing = nothing
 
 -- the manifest was accepted, and its tail read to its end; the two together end where both do
 pub snapshot-tells : (bound : List (List ℕ)) (revision : ℕ) (s t : List ℕ) (w : ℕ) {m : El manifest} {n : ℕ}
-    → judge_snapshot bound revision s t w ≡ got m n
+    → judge_tail bound revision s t w ≡ got m n
     → (judge bound revision s w ≡ got m (length s)) × TailRead m t (length t) × (n ≡ length s + length t)
-unfolding judge_snapshot
+unfolding judge_tail
 snapshot-tells bound revision s t w e = yielded (subst (Yields Told) e
     (yields-ask (leb (length s + length t) max_snapshot_bytes) _ _ λ _.
     yields-bind (self (judge bound revision s w)) λ m k j.
@@ -150,9 +150,9 @@ snapshot-tells bound revision s t w e = yielded (subst (Yields Told) e
     Told : El manifest → ℕ → Type 0
     Told m n = (judge bound revision s w ≡ got m (length s)) × TailRead m t (length t) × (n ≡ length s + length t)
 
--- where `decode_snapshot` accepts, there is a manifest
+-- where `decode_tail` accepts, there is a manifest
 pub snapshot-got : (bound : List (List ℕ)) (revision : ℕ) (s t : List ℕ) (base : ℕ) (index : List ℕ)
-    → IsOk (decode_snapshot bound s t base revision index)
-    → (m : El manifest) × (n : ℕ) × (judge_snapshot bound revision s t (length index) ≡ got m n)
-unfolding decode_snapshot
-snapshot-got bound revision s t base index e = decoded-got base s (judge_snapshot bound revision s t (length index)) e
+    → IsOk (decode_tail bound s t base revision index)
+    → (m : El manifest) × (n : ℕ) × (judge_tail bound revision s t (length index) ≡ got m n)
+unfolding decode_tail
+snapshot-got bound revision s t base index e = decoded-got base s (judge_tail bound revision s t (length index)) e

@@ -5,14 +5,13 @@ use mathlib.Core.Path.{◌≡◌, sym, ◌∙◌}
 use mathlib.Core.Bool.{Bool, true, false, not, ◌&&◌, or-true, true≢false, false≢true}
 use mathlib.Core.List.{List, [], ◌∷◌, ◌++◌, map}
 use lib.ListN.{length, length-map}
-use lib.Dec.{eqb}
 use Rattle.text.proofs.Blocks.{both, neither}
 use Rattle.state_wire.specs.Fields.{max_snapshot_bytes}
 use Rattle.format.specs.Lists.{same, is_in}
 use Rattle.format.specs.Format.{El, encode}
 use Rattle.format.specs.Keys.{connector_key}
 use Rattle.format.specs.Manifest.{value, counted, enums, connectors, manifest}
-use Rattle.format.specs.Fields.{Entry, enums_of, blocks_of, connectors_of, enum_path, connector_key_of, value_type_of, type_tag, value_tag, type_class, value_class, ordinal}
+use Rattle.format.specs.Fields.{Entry, enums_of, blocks_of, connectors_of, enum_path, value_type_of, type_class, value_class, ordinal}
 use Rattle.format.specs.Admits.{Holds}
 use Rattle.format.proofs.Lists.{same_true, same_of}
 use Rattle.questions.specs.Sets.{all, any, gather, all_in, same_set, first}
@@ -36,10 +35,8 @@ class-typed : (cs : List (Entry connectors)) (v : Entry values) → type_is cs v
 unfolding type_is any gather has_type
 class-typed [] v e = absurd (false≢true e)
 class-typed (c ∷ cs) v e =
-    let k : Bool = same (encode connector_key (value_key v)) (encode connector_key (connector_key_of c)) in
-    let t : Bool = eqb (value_tag (value_of v)) (type_tag (value_type_of c)) in
-    or_cases (k && has_type (value_of v) (value_type_of c)) (type_is cs v)
-    (λ i. all-in-front _ (class_of c) (gather class_of cs) (both t _ (both k _ i).1).1)
+    or_cases _ (type_is cs v)
+    (λ i. all-in-front _ (class_of c) (gather class_of cs) (both _ _ (both _ _ i).1).1)
     (λ i. all-in-back _ (class_of c) (gather class_of cs) (class-typed cs v i))
     e
 

@@ -13,13 +13,13 @@ behind n (got m p) = got m (n + p)
 behind n (refused q p) = refused q (n + p)
 
 -- "A call on a tail first reads its manifest; its question 1 tests both lengths summed, elsewhere n is the manifest's length"
-unfoldable pub judge_snapshot : (bound : List (List ℕ)) → (revision : ℕ) → (s t : List ℕ) → (index : ℕ) → Outcome (El manifest)
-judge_snapshot bound revision s t w =
+unfoldable pub judge_tail : (bound : List (List ℕ)) → (revision : ℕ) → (s t : List ℕ) → (index : ℕ) → Outcome (El manifest)
+judge_tail bound revision s t w =
     ask (leb (length s + length t) max_snapshot_bytes) 1 0 (bind (judge bound revision s w) (λ m n. behind n (read_tail m t)))
 
--- the answer of `decode_snapshot`, and the index at its end: as of a manifest
-unfoldable pub decode_snapshot : (bound : List (List ℕ)) → (s t : List ℕ) → (base revision : ℕ) → (index : List ℕ) → Decoded
-decode_snapshot bound s t base revision index = decoded_of base s (judge_snapshot bound revision s t (length index))
+-- the answer of `decode_tail`, and the index at its end: as of a manifest
+unfoldable pub decode_tail : (bound : List (List ℕ)) → (s t : List ℕ) → (base revision : ℕ) → (index : List ℕ) → Decoded
+decode_tail bound s t base revision index = decoded_of base s (judge_tail bound revision s t (length index))
 
-unfoldable pub snapshot_index : (bound : List (List ℕ)) → (s t : List ℕ) → (revision : ℕ) → (index : List ℕ) → List ℕ
-snapshot_index bound s t revision index = index_after s index (judge_snapshot bound revision s t (length index))
+unfoldable pub tail_index : (bound : List (List ℕ)) → (s t : List ℕ) → (revision : ℕ) → (index : List ℕ) → List ℕ
+tail_index bound s t revision index = index_after s index (judge_tail bound revision s t (length index))

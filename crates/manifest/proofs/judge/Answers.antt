@@ -1,7 +1,8 @@
 use mathlib.Core.Path.{◌≡◌, sym, ◌∙◌}
 use Rattle.std.proofs.Common.{rules}
-use Rattle.state_manifest_codec.proofs.Reading.{passed_on}
-use Rattle.manifest.proofs.Judging.{located, located-no, located-yes, read-tabled, judge-unread, judge-no, judge-yes}
+use Rattle.state.proofs.Outcome.{passed_on}
+use Rattle.questions.proofs.Chains.{located, located-no, located-yes}
+use Rattle.manifest.proofs.Judging.{read-tabled, judge-unread, judge-no, judge-yes}
 use Rattle.manifest.proofs.judge.Goals as goal
 
 pub returns-in_default : goal.returns-in_default

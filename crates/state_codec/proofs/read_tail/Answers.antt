@@ -1,7 +1,8 @@
+use native.Mathlib.Omega.{arith}
 use mathlib.Core.Path.{◌≡◌, sym, ◌∙◌}
 use Rattle.std.proofs.Common.{rules}
-use Rattle.manifest.proofs.Judging.{located, located-no, located-yes}
-use Rattle.state_manifest_codec.proofs.Reading.{passed_on}
+use Rattle.questions.proofs.Chains.{located, located-no, located-yes}
+use Rattle.state.proofs.Outcome.{passed_on}
 use Rattle.state_codec.proofs.Reading.{starts-long, slots-fit, values-stop, values-well, values-no, words-stop, words_right}
 use Rattle.state_codec.proofs.read_tail.Goals as goal
 
@@ -18,18 +19,18 @@ returns-in_err-map_err c =
     let n = located-no _ _ e c.in_err-map_err.was in
     rw (passed_on c.from_residual.ensures.1, n.2) (values-no c.requires.asked _ c.read_values-values.ensures c.in-Ok.is (sym n.1 ∙ c.validate_values.ensures))
 
-pub word_at-slots-requires : goal.word_at-slots-requires
-word_at-slots-requires c = rw c.from.ensures (starts-long c.requires.asked)
+pub section_start-slots-requires : goal.section_start-slots-requires
+section_start-slots-requires c = (omega arith, omega (arith, starts-long c.requires.asked))
 
 pub state_words-requires : goal.state_words-requires
-state_words-requires c = slots-fit c.requires.asked (rw c.from.ensures at c.word_at-slots.ensures)
+state_words-requires c = slots-fit c.requires.asked c.section_start-slots.ensures
 
 pub returns-in_default-words : goal.returns-in_default-words
 returns-in_default-words c =
     let e : c.map_err.result ≡ located c.in-Ok.p c.validate_values.result = search rules in
-    words-stop c.requires.asked _ c.read_values-values.ensures c.in-Ok.is (sym (located-yes _ _ e c.in_ok-map_err.was) ∙ c.validate_values.ensures) (rw c.from.ensures at c.word_at-slots.ensures) c.state_words.ensures c.read_words-words.ensures c.in_default-words.is
+    words-stop c.requires.asked _ c.read_values-values.ensures c.in-Ok.is (sym (located-yes _ _ e c.in_ok-map_err.was) ∙ c.validate_values.ensures) c.section_start-slots.ensures c.state_words.ensures c.read_words-words.ensures c.in_default-words.is
 
 pub returns : goal.returns
 returns c =
     let e : c.map_err.result ≡ located c.in-Ok.p c.validate_values.result = search rules in
-    words_right c.requires.asked _ c.read_values-values.ensures c.in-Ok.is (sym (located-yes _ _ e c.in_ok-map_err.was) ∙ c.validate_values.ensures) (rw c.from.ensures at c.word_at-slots.ensures) c.state_words.ensures c.read_words-words.ensures c.in-Ok-words.is c.read_flags.ensures
+    words_right c.requires.asked _ c.read_values-values.ensures c.in-Ok.is (sym (located-yes _ _ e c.in_ok-map_err.was) ∙ c.validate_values.ensures) c.section_start-slots.ensures c.state_words.ensures c.read_words-words.ensures c.in-Ok-words.is c.read_flags.ensures

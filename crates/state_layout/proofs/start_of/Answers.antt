@@ -3,10 +3,10 @@ use Rattle.state_layout.proofs.Indexed.{reach_next, reach_end, reach_fits, reach
 use Rattle.state_layout.proofs.start_of.Goals as goal
 
 pub overflow_add-w : goal.overflow_add-w
-overflow_add-w c = omega (arith, reach_fits (reach_next c.loop-k.invariant c.loop-k-test.true (rw c.from.ensures at c.word_at.ensures) c.count_at-w.ensures))
+overflow_add-w c = omega (arith, reach_fits (reach_next c.loop-k.invariant c.loop-k-test.true c.section_start.ensures c.count_at-w.ensures))
 
 pub returns : goal.returns
 returns c = reach_end c.loop-k.invariant (omega arith)
 
-pub word_at-requires : goal.word_at-requires
-word_at-requires c = rw (← c.from.ensures) at (reach_word c.loop-k.invariant c.loop-k-test.true)
+pub section_start-requires : goal.section_start-requires
+section_start-requires c = let w = reach_word c.loop-k.invariant c.loop-k-test.true in (omega (arith, c.loop-k.invariant.from), omega (arith, w, c.loop-k.invariant.from))

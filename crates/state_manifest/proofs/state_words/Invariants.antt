@@ -1,6 +1,0 @@
-use Prim.Native.Nat.{◌-◌}
-use Rattle.state_manifest.proofs.Walk.{Walking}
-use Rattle.state_manifest.proofs.state_words.Given as goal
-
-abbrev pub invariant-loop : goal.invariant-loop
-invariant-loop l = Walking l.s l.at (l.count - l.counter) l.p l.most

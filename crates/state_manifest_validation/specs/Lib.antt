@@ -1,1 +1,0 @@
--- Nothing of its own: the definitions are those of questions.
