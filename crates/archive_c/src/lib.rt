@@ -2,7 +2,7 @@
 #![tactic(auto)]
 
 ghost use Rattle.std.specs.Prelude.{◌≡◌};
-ghost use Rattle.text.specs.Valid.{valid_up_to};
+ghost use Rattle.utf8.specs.Valid.{valid_up_to};
 ghost use Rattle.order.specs.Lex.{lex_compare, agreeing};
 ghost use Rattle.state_wire.specs.Fields.{read_text};
 ghost use Rattle.state_reader.specs.Read.{string_read};

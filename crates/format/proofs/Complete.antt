@@ -14,7 +14,7 @@ use borrow.Author.Tests.{leb-true, le-leb, lt-ltb, eq-eqb}
 use Rattle.state.specs.Bytes.{AreBytes, span, bytes_of}
 use Rattle.state.specs.Outcome.{Outcome, got}
 use Rattle.state.proofs.Bytes.{Part, part-front, part-back, part-first, bytes-length, bytes-number}
-use Rattle.text.proofs.Blocks.{both}
+use Rattle.std.proofs.lemmas.Bool.{and_parts as both}
 use Rattle.state_wire.specs.Fields.{read_span, read_number, read_tag, bounded_count, read_count, read_text}
 use Rattle.state_wire.proofs.Fields.{span-got}
 use Rattle.format.specs.Format.{Rule, Fmt, done, number, tag, text, tagged, ◌then◌, list, El, entries, read, each, encode, kept, after_key, after_entry}

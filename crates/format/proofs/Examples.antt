@@ -6,7 +6,7 @@ use mathlib.Core.List.{List, [], ◌∷◌, ◌++◌, map}
 use lib.ListN.{length, replicate}
 use Rattle.state.specs.Bytes.{number_of}
 use Rattle.state.specs.Outcome.{got, bind}
-use Rattle.text.specs.Valid.{valid_up_to}
+use Rattle.utf8.specs.Valid.{valid_up_to}
 use Rattle.order.specs.Lex.{lex_compare}
 use Rattle.state_wire.specs.Fields.{read_span, read_number, read_tag, read_count, bounded_count, read_text, max_snapshot_bytes}
 use Rattle.format.specs.Lists.{is_in, all_different}

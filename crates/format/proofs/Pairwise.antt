@@ -9,7 +9,7 @@ use lib.ListN.{length, get_or}
 use lib.Seq.{append_snoc}
 use borrow.Author.Tests.{not-true}
 use Rattle.std.specs.Ordering.{is_lt}
-use Rattle.text.proofs.Blocks.{both, neither}
+use Rattle.std.proofs.lemmas.Bool.{and_parts as both, or_parts as neither}
 use Rattle.std.specs.declared.cmp.Ordering.{Ordering}
 use Rattle.std.specs.declared.cmp.Ordering.TheVariants.{Less, Equal, Greater}
 use Rattle.order.specs.Lex.{lex_compare}

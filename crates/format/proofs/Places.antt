@@ -3,11 +3,11 @@ use Prim.Native.Nat.{ℕ, zero, suc, ◌+◌, ◌*◌, ◌≤◌}
 use native.Mathlib.Omega.{arith}
 use mathlib.Core.Path.{◌≡◌, refl, ap, ◌∙◌, subst}
 use mathlib.Core.List.{List, [], ◌∷◌, ◌++◌, map}
-use lib.ListN.{length, get_or, take, drop, length-append}
+use lib.ListN.{length, take, drop, length-append}
 use lib.Seq.{take_at, drop_at}
 use Rattle.state.specs.Bytes.{span}
 use Rattle.state.specs.Outcome.{got, step_of}
-use Rattle.state.proofs.Outcome.{Yields, this, always, yielded, yields-so, yields-ask, yields-bind, onward}
+use Rattle.state.proofs.Outcome.{Yields, this, yielded, yields-so, yields-ask, yields-bind}
 use Rattle.format.specs.Format.{Rule, Fmt, ◌then◌, list, El, entries, read, scan, kept, after_key, after_entry, after_all, from}
 use Rattle.format.specs.Admits.{All}
 use Rattle.format.specs.Keys.{block_key, connector_key}
@@ -16,7 +16,6 @@ use Rattle.format.specs.Places.{end_of, count_at, end_at, starts, section_starts
 use Rattle.format.specs.Least.{least}
 use Rattle.format.specs.Reading.{index_words}
 use Rattle.format.proofs.Bounds.{yields-count, ahead, list-takes, list_counts}
-use Rattle.format.proofs.Steps.{scan-then}
 use Rattle.format.proofs.Values.{self}
 
 -- ---- values one after the other
@@ -25,11 +24,6 @@ module _ (limit : ℕ) where
   pub end-got : (f : Fmt) (s : List ℕ) (at : ℕ) {v : El f} {n : ℕ} → read limit f s at ≡ got v n → end_at limit f s at ≡ n
   unfolding scan
   end-got f s at e = ap (λ o. end_of (step_of o)) e
-
-  -- the second of two ends where it ends when read after the first
-  pub end-then : (a b : Fmt) (s : List ℕ) (at : ℕ) {v : El a} {m : ℕ} → read limit a s at ≡ got v m → end_at limit (a then b) s at ≡ end_at limit b s m
-  unfolding scan
-  end-then a b s at e = ap end_of (scan-then limit s at a b ∙ ap (λ o. onward (step_of o) (λ m. scan limit b s m)) e)
 
   -- so many values have so many starts
   pub starts-length : (f : Fmt) (s : List ℕ) (n at : ℕ) → length (starts limit f s n at) ≡ n
@@ -113,11 +107,7 @@ module _ (limit : ℕ) (s : List ℕ) where
       this (rw (← c, i, take_at (starts limit (entry e) s (length vs) (at + 4)) (entry_starts limit es s m) (length vs) l, drop_at (starts limit (entry e) s (length vs) (at + 4)) (entry_starts limit es s m) (length vs) l)
       (entries-stand limit e.rule e.key e.rest s 4 e.least at ev, q))
 
-  -- lists that were read one after the other have their entries at their starts, and so has a manifest
-  pub lists-stand : (es : List Section) (at : ℕ) {v : El (sequence (map counted es))} {n : ℕ} → read limit (sequence (map counted es)) s at ≡ got v n
-      → StandEntries es (entry_starts limit es s at) v
-  lists-stand es at e = yielded (subst (Yields (λ v n. StandEntries es (entry_starts limit es s at) v)) e (yields-entries es at))
-
+  -- so has a manifest its entries at their starts
   pub manifest-entries-stand : {v : El manifest} {n : ℕ} → read limit manifest s 0 ≡ got v n → unfold manifest in StandEntries lists (manifest_entries limit s) v.1
   unfolding read manifest manifest_entries
   manifest-entries-stand e = yielded (subst (Yields (λ (v : El (sequence sections)) n. StandEntries lists (entry_starts limit lists s (end_at limit portability s 0)) v.1)) e
@@ -149,30 +139,3 @@ module _ (limit : ℕ) (s : List ℕ) where
   pub manifest-stands : {v : El manifest} {n : ℕ} → read limit manifest s 0 ≡ got v n → unfold manifest in StandSections sections (manifest_starts limit s) v
   unfolding manifest manifest_starts
   manifest-stands e = sections-stand sections 0 e
-
-  -- where the first sections were read, the next one starts where they end
-  pub sections-read : (fs : List Fmt) (g : Fmt) (gs : List Fmt) (at : ℕ) {v : El (sequence fs)} {n : ℕ} → read limit (sequence fs) s at ≡ got v n
-      → get_or (section_starts limit (fs ++ (g ∷ gs)) s at) (length fs) 0 ≡ n
-  unfolding read section_starts
-  sections-read fs g gs at e = yielded (subst (Yields _) e (yields-next fs at))
-    where
-      yields-next : (fs : List Fmt) (at : ℕ) → Yields (λ v n. get_or (section_starts limit (fs ++ (g ∷ gs)) s at) (length fs) 0 ≡ n) (read limit (sequence fs) s at)
-      yields-next [] at = this refl
-      yields-next (f ∷ fs) at =
-          yields-bind (self (read limit f s at)) λ v m ev.
-          yields-bind (yields-next fs m) λ vs n q.
-          this (rw (end-got limit f s at ev) q)
-
-  -- and so where a whole row of sections was read
-  pub starts-after : (fs : List Fmt) (g : Fmt) (gs : List Fmt) (at : ℕ) {v : El (sequence (fs ++ (g ∷ gs)))} {n : ℕ} → read limit (sequence (fs ++ (g ∷ gs))) s at ≡ got v n
-      → get_or (section_starts limit (fs ++ (g ∷ gs)) s at) (length fs) 0 ≡ end_at limit (sequence fs) s at
-  unfolding read scan section_starts
-  starts-after fs g gs at e = yielded (subst (Yields (λ v n. get_or (section_starts limit (fs ++ (g ∷ gs)) s at) (length fs) 0 ≡ end_at limit (sequence fs) s at)) e (yields-after fs at))
-    where
-      yields-after : (fs : List Fmt) (at : ℕ) → Yields (λ v n. get_or (section_starts limit (fs ++ (g ∷ gs)) s at) (length fs) 0 ≡ end_at limit (sequence fs) s at) (read limit (sequence (fs ++ (g ∷ gs))) s at)
-      yields-after [] at =
-          yields-bind {P = λ _ _. Unit} (always (read limit g s at)) λ v m _. yields-bind {P = λ _ _. Unit} (always (read limit (sequence gs) s m)) λ w n _. this refl
-      yields-after (f ∷ fs) at =
-          yields-bind (self (read limit f s at)) λ v m ev.
-          yields-bind (yields-after fs m) λ vs n q.
-          this (rw (end-got limit f s at ev, end-then limit f (sequence fs) s at ev) q)

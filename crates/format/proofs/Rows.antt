@@ -8,7 +8,7 @@ use borrow.Author.Tests.{lt-leb}
 use Rattle.std.specs.Prelude.{Ok}
 use Rattle.state.specs.Bytes.{number_of}
 use Rattle.state.specs.Outcome.{refused, step_of, Stepped, refuses}
-use Rattle.text.specs.Valid.{valid_up_to}
+use Rattle.utf8.specs.Valid.{valid_up_to}
 use Rattle.order.specs.Lex.{lex_compare}
 use Rattle.state_wire.specs.Fields.{read_span, read_number, read_tag, read_count, bounded_count, read_text, max_snapshot_bytes}
 use Rattle.format.specs.Lists.{is_in, all_different}

@@ -30,12 +30,7 @@ module _ (limit : ℕ) (s : List ℕ) where
       let t = list-takes limit s 4 e.least e.rule e.key e.rest at ev (least (entry e)) (le_refl _) in
       this (omega (arith, t, q))
 
-  -- lists that were read one after the other take so many bytes or more
-  pub lists-take : (es : List Section) (at : ℕ) {v : El (sequence (map counted es))} {n : ℕ} → read limit (sequence (map counted es)) s at ≡ got v n
-      → at + least_of es v ≤ n
-  lists-take es at e = yielded (subst (Yields (λ v n. at + least_of es v ≤ n)) e (yields-take es at))
-
-  -- and so does a manifest, after the tag of its first section; a connector takes 21 although question 7 tests 19
+  -- a manifest takes so many bytes or more, after the tag of its first section; a connector takes 21 although question 7 tests 19
   pub sections-take : {v : El manifest} {n : ℕ} → read limit manifest s 0 ≡ got v n
       → 45 + 8 * length (enums_of v) + 34 * length (blocks_of v) + 21 * length (connectors_of v) + 20 * length (connections_of v)
       + 5 * length (schedule_of v) + 10 * length (connector_order_of v) + 20 * length (drivers_of v) + 21 * length (slots_of v)

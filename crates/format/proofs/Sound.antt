@@ -12,7 +12,7 @@ use Rattle.state.specs.Bytes.{AreBytes, span, bytes_of}
 use Rattle.state.specs.Outcome.{Outcome, got}
 use Rattle.state.proofs.Bytes.{Part, span-length, span-drop, part-here, part-nil, part_join, bytes-span, number-bytes, number-below}
 use Rattle.state.proofs.Outcome.{Yields, this, always, yielded, yields-so, yields-ask, yields-bind}
-use Rattle.text.specs.Valid.{valid_up_to}
+use Rattle.utf8.specs.Valid.{valid_up_to}
 use Rattle.state_wire.specs.Fields.{read_number, read_tag, bounded_count, read_count, read_text}
 use Rattle.state_wire.proofs.Fields.{yields-number, yields-span}
 use Rattle.format.specs.Format.{wire, plain, Rule, free, distinct, early, late, Fmt, done, number, tag, text, tagged, ◌then◌, list, El, entries, read, each, encode, kept, after_key, after_entry, after_all, from}

@@ -11,7 +11,7 @@ use Rattle.state.specs.Bytes.{AreBytes, span, number_of}
 use Rattle.state.specs.Outcome.{Outcome, got, refused}
 use Rattle.state.proofs.Bytes.{number-one}
 use Rattle.state.proofs.Outcome.{Yields, this, nothing, yielded, yields-so, yields-ask, yields-bind}
-use Rattle.text.specs.Valid.{valid_up_to}
+use Rattle.utf8.specs.Valid.{valid_up_to}
 use Rattle.state_wire.specs.Fields.{read_tag, read_text}
 use Rattle.state_wire.proofs.Fields.{yields-number, yields-span}
 use Rattle.format.specs.Format.{Rule, Fmt, done, number, tag, text, tagged, ◌then◌, list, El, entries, read, encode, kept, after_key, after_entry, after_all, from}

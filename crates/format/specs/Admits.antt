@@ -1,7 +1,7 @@
 -- Which values a format admits: those that questions 3 to 9 let through, under a limit for strings.
 use Rattle.std.specs.Prelude.{ℕ, ◌^◌, ◌<◌, ◌≤◌, ◌≡◌, List, [], ◌∷◌, map, Bool, true, ◌&&◌, length, drop}
 use Rattle.state.specs.Bytes.{AreBytes}
-use Rattle.text.specs.Valid.{valid_up_to}
+use Rattle.utf8.specs.Valid.{valid_up_to}
 use Rattle.format.specs.Format.{Rank, wire, plain, Rule, free, distinct, early, late, Fmt, done, number, tag, text, tagged, ◌then◌, list, El, encode, kept, after_key, after_entry, after_all}
 
 -- the ranked bytes of a key as it is written

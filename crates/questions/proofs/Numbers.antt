@@ -7,7 +7,7 @@ use mathlib.Core.List.{List, [], ◌∷◌, ◌++◌, map}
 use lib.ListN.{get_or}
 use lib.Dec.{leb, eqb}
 use borrow.Author.Tests.{leb-true, ne_eqb}
-use Rattle.text.proofs.Blocks.{both}
+use Rattle.std.proofs.lemmas.Bool.{and_parts as both}
 use Rattle.format.specs.Format.{El}
 use Rattle.format.specs.Admits.{All}
 use Rattle.format.specs.Manifest.{value_type, value, enums, blocks, connectors, state_slots, input_definitions, manifest}

@@ -6,7 +6,7 @@ use mathlib.Core.Bool.{Bool, true, false, not, true≢false, false≢true}
 use mathlib.Core.List.{List, [], ◌∷◌, ◌++◌}
 use lib.Dec.{eqb}
 use borrow.Author.Tests.{eqb-true, not-true}
-use Rattle.text.proofs.Blocks.{both}
+use Rattle.std.proofs.lemmas.Bool.{and_parts as both}
 use Rattle.state_wire.specs.Fields.{max_snapshot_bytes}
 use Rattle.format.specs.Lists.{same, is_in, all_different}
 use Rattle.format.specs.Format.{El, encode}

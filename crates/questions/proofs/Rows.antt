@@ -8,7 +8,7 @@ use Rattle.std.specs.Prelude.{Result, Ok}
 use Rattle.state.specs.Outcome.{refuses}
 use Rattle.state.specs.declared.Refusal.{Refusal}
 use Rattle.state.specs.declared.Units.{Units}
-use Rattle.text.specs.Valid.{valid_up_to}
+use Rattle.utf8.specs.Valid.{valid_up_to}
 use Rattle.order.specs.Lex.{lex_compare}
 use Rattle.state_wire.specs.Fields.{read_span, read_number, read_tag, read_count, bounded_count, read_text}
 use Rattle.format.specs.Lists.{is_in, all_different}

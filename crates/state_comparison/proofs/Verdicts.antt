@@ -7,7 +7,7 @@ use mathlib.Core.List.{List, [], ◌∷◌}
 use mathlib.Core.Logic.{inl, inr}
 use lib.ListN.{length, get_or}
 use types.Run.{OneOf}
-use Rattle.text.proofs.Blocks.{both}
+use Rattle.std.proofs.lemmas.Bool.{and_parts as both}
 use Rattle.std.proofs.lemmas.List.{get_or_default}
 use Rattle.state.specs.Bytes.{span}
 use Rattle.std.specs.Prelude.{Ok, Err}

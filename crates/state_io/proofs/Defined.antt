@@ -4,7 +4,7 @@ use mathlib.Core.Path.{◌≡◌, refl, sym, ap, ◌∙◌}
 use mathlib.Core.Bool.{Bool, true, false, ◌&&◌}
 use mathlib.Core.List.{List, [], ◌∷◌, ◌++◌, map, map-append}
 use lib.ListN.{length, get_or}
-use Rattle.text.proofs.Blocks.{both, neither}
+use Rattle.std.proofs.lemmas.Bool.{and_parts as both, or_parts as neither}
 use Rattle.format.specs.Lists.{same, is_in}
 use Rattle.format.specs.Format.{number, text}
 use Rattle.format.specs.Manifest.{value_type, value, optional, enums, input_definitions, input_rest, numbered}

@@ -7,7 +7,7 @@ use mathlib.Core.List.{List, [], ◌∷◌}
 use lib.ListN.{length}
 use lib.Dec.{eqb}
 use borrow.Author.Tests.{eqb-true, eq-eqb, ne_eqb}
-use Rattle.text.proofs.Blocks.{both}
+use Rattle.std.proofs.lemmas.Bool.{and_parts as both}
 use Rattle.format.specs.Lists.{same, is_in}
 use Rattle.format.specs.Format.{El}
 use Rattle.format.specs.Manifest.{value_type}

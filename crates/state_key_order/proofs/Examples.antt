@@ -6,7 +6,7 @@ use lib.ListN.{length}
 use Rattle.std.specs.Prelude.{Ok}
 use Rattle.state.specs.Outcome.{Stepped, refuses}
 use Rattle.state.specs.Bytes.{number_of, bytes_of}
-use Rattle.text.specs.Valid.{valid_up_to}
+use Rattle.utf8.specs.Valid.{valid_up_to}
 use Rattle.state_wire.specs.Fields.{read_span, read_number, read_tag, read_text, max_snapshot_bytes}
 use Rattle.std.specs.declared.cmp.Ordering.TheVariants.{Less, Equal}
 use Rattle.order.specs.Lex.{lex_compare}

@@ -8,7 +8,7 @@ use lib.ListN.{length, get_or, length-map}
 use lib.Dec.{ltb, leb}
 use borrow.Author.Tests.{le-ltb, lt-ltb}
 use Rattle.std.specs.Prelude.{Option, Some, None}
-use Rattle.text.proofs.Blocks.{neither}
+use Rattle.std.proofs.lemmas.Bool.{or_parts as neither}
 use Rattle.format.specs.Lists.{same, is_in, all_different}
 use Rattle.format.specs.Format.{El, text}
 use Rattle.format.specs.Manifest.{value, members, entry, enums, numbered}

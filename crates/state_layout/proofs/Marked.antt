@@ -6,7 +6,7 @@ use mathlib.Core.Bool.{Bool, true, false, not, cond, or-true}
 use mathlib.Core.List.{List, [], ◌∷◌, map}
 use lib.ListN.{length, get_or, set, replicate}
 use borrow.Author.Tests.{not-true}
-use Rattle.text.proofs.Blocks.{both, neither}
+use Rattle.std.proofs.lemmas.Bool.{and_parts as both, or_parts as neither}
 use Rattle.format.specs.Lists.{same, is_in, all_different}
 use Rattle.format.proofs.Lists.{same_refl, same-sym}
 use Rattle.questions.specs.Sets.{all, all_in}

@@ -10,7 +10,7 @@ use lib.Dec.{leb, eqb}
 use lib.Pointwise.{pointwise}
 use Rattle.std.proofs.lemmas.List.{get_or-take}
 use borrow.Author.Tests.{leb-true, eqb-true, eqb-false, eq-eqb}
-use Rattle.text.proofs.Blocks.{both}
+use Rattle.std.proofs.lemmas.Bool.{and_parts as both}
 use Rattle.format.specs.Lists.{same}
 use Rattle.format.proofs.Lists.{same-lengths, same-apart, same-told}
 use Rattle.state_portability.specs.declared.TheConstants.{TARGET_BOUND_LENGTHS, TARGET_BOUND_CLASSES}

@@ -13,7 +13,7 @@ use denote.Enum.Bare.{sameb, same_true}
 use Rattle.std.proofs.Common.{rules}
 use Rattle.state_sections.specs.contracts.layouts.Asked.{the_type}
 use Rattle.state_sections.specs.declared.layouts.Asked.{Asked}
-use Rattle.text.proofs.Blocks.{both}
+use Rattle.std.proofs.lemmas.Bool.{and_parts as both}
 use Rattle.format.specs.Format.{wire, plain, Rule, free, distinct, early, late, from, above, kept, after_key, after_entry, after_all}
 use Rattle.format.specs.Keys.{block_key, connector_key}
 use Rattle.format.specs.Manifest.{Section, numbered}

@@ -6,7 +6,7 @@ use mathlib.Core.Bool.{true, not}
 use mathlib.Core.List.{List, [], ◌∷◌, map}
 use lib.Dec.{eqb}
 use borrow.Author.Tests.{eqb-true, eqb-false, ltb-true, not-true}
-use Rattle.text.proofs.Blocks.{both}
+use Rattle.std.proofs.lemmas.Bool.{and_parts as both}
 use Rattle.format.specs.Format.{El}
 use Rattle.format.specs.Manifest.{enums, blocks, state_slots, manifest}
 use Rattle.format.specs.Fields.{Entry, enums_of, blocks_of, state_revision, state_len, slot_length}

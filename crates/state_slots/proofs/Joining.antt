@@ -7,7 +7,7 @@ use mathlib.Core.List.Permᴰ
 use mathlib.Core.List.{List, [], ◌∷◌, Permᴰ}
 use lib.Dec.{leb, eqb}
 use borrow.Author.Tests.{eqb-true, leb-true, le-leb, leb-false, lt-leb}
-use Rattle.text.proofs.Blocks.{both}
+use Rattle.std.proofs.lemmas.Bool.{and_parts as both}
 use Rattle.format.specs.Admits.{All}
 use Rattle.questions.specs.Slots.{insert, by_offset, join_from}
 use Rattle.questions.proofs.Sets.{both_ways}

@@ -7,7 +7,7 @@ use mathlib.Core.Bool.{true}
 use mathlib.Core.List.{List}
 use lib.ListN.{length}
 use borrow.Author.Tests.{ltb-true}
-use Rattle.text.proofs.Blocks.{both}
+use Rattle.std.proofs.lemmas.Bool.{and_parts as both}
 use Rattle.format.specs.Keys.{block_key}
 use Rattle.format.specs.Manifest.{slot_rest, entry, state_slots, counted}
 use Rattle.format.specs.Fields.{Entry, slot_offset, slot_length}

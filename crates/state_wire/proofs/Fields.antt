@@ -11,8 +11,8 @@ use Rattle.state.specs.Outcome.{got, Stepped, NumberRead, step_of, field_of}
 use Rattle.std.specs.Prelude.{Ok}
 use Rattle.state.proofs.Bytes.{span-length, number-one}
 use Rattle.state.proofs.Outcome.{step-yields, value-yields, Yields, this, yields-ask, yields-bind}
-use Rattle.text.specs.Valid.{valid_up_to}
-use Rattle.text.proofs.Steps.{valid-within}
+use Rattle.utf8.specs.Valid.{valid_up_to}
+use Rattle.utf8.proofs.Steps.{valid-within}
 use Rattle.state_wire.specs.Fields.{read_span, read_number, read_tag, read_text}
 
 module _ (n : ℕ) (s : List ℕ) (at : ℕ) where

@@ -2,7 +2,7 @@
 use Rattle.std.specs.Prelude.{ℕ, ◌+◌, ◌*◌, ◌-◌, List, [], length, ltb, leb, eqb}
 use Rattle.state.specs.Bytes.{span, number_of}
 use Rattle.state.specs.Outcome.{Outcome, got, refused, bind, ask}
-use Rattle.text.specs.Valid.{valid_up_to}
+use Rattle.utf8.specs.Valid.{valid_up_to}
 
 -- "3. Bytes enough for it? 3, at its start." The n bytes of a field
 unfoldable pub read_span : (n : ℕ) → List ℕ → ℕ → Outcome (List ℕ)

@@ -2,27 +2,18 @@
 -- Assumes nothing.
 use Prim.Native.Nat.{ℕ, zero, suc, ◌+◌, ◌-◌, ◌≤◌, ◌<◌}
 use mathlib.Core.List.{List, [], ◌∷◌}
-use mathlib.Core.Bool.{Bool, true, false, ◌&&◌, ◌||◌}
 use mathlib.Core.Logic.{⊎_elim}
 use mathlib.Core.Path.{◌≡◌, refl, sym, subst, ◌∙◌}
 use lib.ListN.{length, get_or, drop}
 use lib.Seq.{drop-drop}
 use native.Mathlib.Nat.{zero-add, add-zero}
 use native.Mathlib.Omega.{arith}
-use Rattle.std.proofs.lemmas.Bool.{cases_lt, and_parts, or_parts}
+use Rattle.std.proofs.lemmas.Bool.{cases_lt}
 use Rattle.std.specs.Prelude.{Option, None, Some, IfSome}
-use Rattle.text.specs.Valid.{valid_up_to}
+use Rattle.utf8.specs.Valid.{valid_up_to}
 use Rattle.text.specs.Blocks.{Passed, Clean, Quiet, CleanAt, QuietAt, CleanUpTo, pad}
-use Rattle.text.proofs.Steps.{step, ascii, from}
+use Rattle.utf8.proofs.Steps.{step, ascii, from}
 use Rattle.text.proofs.Octets.{taken, next, none-follows}
-
--- ---- what `&&` and `||` say
-
-pub both : (p q : Bool) → p && q ≡ true → (p ≡ true) × (q ≡ true)
-both = and_parts
-
-pub neither : (p q : Bool) → p || q ≡ false → (p ≡ false) × (q ≡ false)
-neither = or_parts
 
 -- ---- after w, x and y a list whose first m octets are right, with a quiet end
 

@@ -1,6 +1,4 @@
--- Laws of the definitions: `Steps`, `Octets` and `Blocks` for the code, `Theorems` for the reader, `Examples` of RFC 3629.
-pub mod Steps
+-- `Passing`, `Octets` and `Blocks`: what the code passes is text.
+pub mod Passing
 pub mod Octets
 pub mod Blocks
-pub mod Theorems
-mod Examples

@@ -12,10 +12,10 @@ use native.Mathlib.Numerals.{add-one}
 use native.Mathlib.Omega.{arith}
 use borrow.Author.Tests.{eqb-true, eqb-false, lt-ltb, le-ltb, ne_eqb}
 use Rattle.std.proofs.lemmas.Bool.{cases_lt}
-use Rattle.text.specs.Rfc3629.{row, mark}
-use Rattle.text.specs.Valid.{lead, fits, whole, char_width}
+use Rattle.utf8.specs.Rfc3629.{row, mark}
+use Rattle.utf8.specs.Valid.{lead, fits, whole, char_width}
 use Rattle.text.specs.Blocks.{second_from, second_to}
-use Rattle.text.proofs.Steps.{past, lead-range, opens, tail_more, tail_none, least, row_is, scalar-low, scalar-gap, scalar-high, scalar-past, fits-so, fits_not, fits-other}
+use Rattle.utf8.proofs.Steps.{past, lead-range, opens, tail_more, tail_none, least, row_is, scalar-low, scalar-gap, scalar-high, scalar-past, fits-so, fits_not, fits-other}
 
 -- ---- numbers that are too small for their width, or are no scalar values, and numbers that fit
 

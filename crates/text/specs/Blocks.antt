@@ -1,6 +1,6 @@
 -- For contracts of private functions only: nothing here needs to be believed.
 use Rattle.std.specs.Prelude.{ℕ, ◌+◌, ◌≤◌, ◌<◌, List, ◌∷◌, cond, ◌⊎◌, ◌≡◌, ltb, eqb, length, get_or, Option, MatchOption}
-use Rattle.text.specs.Valid.{valid_from}
+use Rattle.utf8.specs.Valid.{valid_from}
 
 -- a position further on, with the octets between passed as whole characters
 pub record Passed (s : List ℕ) (from at : ℕ) : Type 0 where

@@ -1,3 +1,2 @@
-pub mod Rfc3629
-pub mod Valid
+-- What the contracts of private functions of `text` cite. What is text: utf8.
 pub mod Blocks

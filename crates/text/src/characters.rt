@@ -1,6 +1,6 @@
 // Characters of more than one octet.
 ghost use Rattle.std.specs.Prelude.{◌≡◌, ◌∷◌, ◌+◌, ◌<◌};
-ghost use Rattle.text.specs.Valid.{lead, char_width};
+ghost use Rattle.utf8.specs.Valid.{lead, char_width};
 ghost use Rattle.text.specs.Blocks.{second_from, second_to, IsWidth};
 
 // RFC 3629, section 4: the second octet by the first, from one number to before another. None follows C0, C1, or F5 and above. Two

@@ -6,7 +6,7 @@ mod characters;
 mod runs;
 
 ghost use Rattle.std.specs.Prelude.{◌≡◌, ◌≤◌, length};
-ghost use Rattle.text.specs.Valid.{valid_up_to, valid_from};
+ghost use Rattle.utf8.specs.Valid.{valid_up_to, valid_from};
 ghost use Rattle.text.specs.Blocks.{Passed};
 
 use ascii::{ascii_blocks, ascii_bytes, skip_ascii};

@@ -7,7 +7,7 @@ use mathlib.Core.List.{List, [], ◌∷◌, map, Permᴰ}
 use lib.ListN.{length, get_or}
 use lib.Dec.{ltb, leb, eqb}
 use borrow.Author.Tests.{leb-true, ltb-true, ltb-false, eqb-true, le-leb, lt-ltb}
-use Rattle.text.proofs.Blocks.{both}
+use Rattle.std.proofs.lemmas.Bool.{and_parts as both}
 use Rattle.format.specs.Admits.{All}
 use Rattle.questions.specs.Sets.{sum}
 use Rattle.questions.specs.Slots.{join_from}

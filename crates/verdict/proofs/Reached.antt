@@ -4,7 +4,7 @@ use native.Mathlib.Omega.{arith}
 use mathlib.Core.Path.{◌≡◌, refl, subst}
 use mathlib.Core.Bool.{true}
 use mathlib.Core.List.{List, [], ◌∷◌}
-use Rattle.text.proofs.Blocks.{both}
+use Rattle.std.proofs.lemmas.Bool.{and_parts as both}
 use Rattle.std.specs.Prelude.{Ok, Err}
 use Rattle.state.specs.declared.Difference.{Difference}
 use Rattle.state_wire.specs.Fields.{max_snapshot_bytes}

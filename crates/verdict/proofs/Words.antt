@@ -8,7 +8,7 @@ use mathlib.Core.List.Permᴰ
 use mathlib.Core.List.{List, [], ◌∷◌, map, map-map}
 use lib.ListN.{length, get_or, length-map}
 use borrow.Author.Tests.{eqb-true}
-use Rattle.text.proofs.Blocks.{both}
+use Rattle.std.proofs.lemmas.Bool.{and_parts as both}
 use Rattle.state_wire.specs.Fields.{max_snapshot_bytes}
 use Rattle.format.specs.Format.{Fmt, El, late, wire, list, ◌then◌, encode}
 use Rattle.format.specs.Keys.{block_key, connector_key}

@@ -1,4 +1,4 @@
-use Rattle.text.proofs.Steps.{onward, further, ended}
+use Rattle.text.proofs.Passing.{onward, further, ended}
 use mathlib.Core.Path.{◌∙◌}
 use native.Mathlib.Omega.{arith}
 use Rattle.text.proofs.chars.Goals as goal

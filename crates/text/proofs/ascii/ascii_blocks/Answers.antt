@@ -1,4 +1,4 @@
-use Rattle.text.proofs.Steps.{onward, ascii-block}
+use Rattle.text.proofs.Passing.{onward, ascii-block}
 use native.Mathlib.Omega.{arith}
 use Rattle.text.proofs.ascii.ascii_blocks.Goals as goal
 

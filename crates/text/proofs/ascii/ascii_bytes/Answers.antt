@@ -10,7 +10,7 @@ use Rattle.std.proofs.lemmas.List.Edits.{length-between}
 use Rattle.std.specs.List.{between, AllWithin, HoldsAt}
 use Rattle.std.specs.Prelude.{Option, None, Some, MatchOption}
 use Rattle.text.specs.Blocks.{Passed}
-use Rattle.text.proofs.Steps.{ascii-passed}
+use Rattle.text.proofs.Passing.{ascii-passed}
 use Rattle.text.proofs.ascii.ascii_bytes.Goals as goal
 
 -- the octets before the i-th of what is left
