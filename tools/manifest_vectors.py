@@ -1,5 +1,5 @@
 #!/usr/bin/env python3
-"""Writes the test vectors of the program replay_manifests: crates/replay_manifests/stdin and stdout.
+"""Writes the lines of crates/replay/stdin that begin with a digit, and their answers in stdout.
 
     python3 tools/manifest_vectors.py ORACLE        or ORACLE=.. python3 tools/manifest_vectors.py
 
@@ -9,7 +9,7 @@ and gives `refused QUESTION OFFSET | ..` or `accepted WORDS CONNECTORS s1 .. s12
 `snapshot` or `target`. Its record 't' (the same as 'm', and a tail) runs decode_snapshot on them in a valid frame, and
 answers as 'm'; where the Rust's budget alone refuses it makes the frame longer. Its answers are taken as they are.
 Questions 1 and 2 are not the Rust's: the answers of lines with too few index words are from document 01's rule, and
-question 1, which needs more than 64 MiB, is tested by tools/bench/decoding.rs. crates/replay_manifests/src/main.rt has
+question 1, which needs more than 64 MiB, is tested by tools/bench/decoding.rs. crates/replay/src/manifests.rt has
 the meaning of the lines. Fixed seeds: a second run writes the same files.
 
 The inputs are those of tools/manifest_cases.py, for questions 3 to 10, of tools/question_cases.py, for 11 to 32, of
@@ -26,13 +26,13 @@ import struct
 import subprocess
 import sys
 
+import replay_lines
 from manifest_cases import all_cases
 from manifests import *
 from question_cases import EACH, EDITS, question_cases
 from tail_cases import show_tails, tail_cases
 from verdict_cases import show_pairs, verdict_pairs
 
-ROOT = os.path.dirname(os.path.dirname(os.path.abspath(__file__)))
 DICE = random.Random(1132)
 MOST = 512  # index words that the program has
 
@@ -164,9 +164,7 @@ def main():
     show_tails(tails, alone, snapshots)
     rows = [row(x) for x in asked] + [row(x.snapshot) + " " + row(x.target) for x in pairs]
     rows += [row(x) + " " + (x.tail.hex() or "-") for x in tails]
-    for name, content in (("stdin", rows), ("stdout", answers + verdicts + snapshots)):
-        with open(os.path.join(ROOT, "crates", "replay_manifests", name), "w", newline="\n") as f:
-            f.write("".join(line + "\n" for line in content))
+    replay_lines.put(rows, answers + verdicts + snapshots)
 
 
 if __name__ == "__main__":

@@ -1,11 +1,11 @@
 #!/usr/bin/env python3
-"""Writes the test vectors of the program replay_keys: crates/replay_keys/stdin and stdout.
+"""Writes the lines of crates/replay/stdin that begin with a letter, and their answers in stdout.
 
     python3 tools/vectors.py ORACLE        or ORACLE=.. python3 tools/vectors.py
 
 ORACLE is the program built from the published Rust: it reads binary records and writes a line for each. Two of its
 records are used: 'm' (base, revision, a manifest) runs decode_manifest and says `refused QUESTION OFFSET | ..` or
-`accepted ..`, and 'k' (two connector keys) says how the Rust's Ord compares them. crates/replay_keys/src/main.rt has
+`accepted ..`, and 'k' (two connector keys) says how the Rust's Ord compares them. crates/replay/src/keys.rt has
 the meaning of the lines. Nothing here is random beyond a fixed seed: a second run writes the same files.
 
 Where the expected answers come from (none comes from our own code):
@@ -23,9 +23,10 @@ import struct
 import subprocess
 import sys
 
+import replay_lines
+
 LIMIT = 67108864
 MOST = 2**64 - 1
-ROOT = os.path.dirname(os.path.dirname(os.path.abspath(__file__)))
 DICE = random.Random(3629)
 BEHIND = (0, 1, 7, 8, 15, 16, 17, 63, 64, 65)
 OUT = {}  # the lines of stdin, with their answers
@@ -396,14 +397,11 @@ def connector_lines():
 
 
 def main():
-    """Makes all lines, then writes the two files."""
+    """Makes all lines, then puts them into the two files."""
     fields = (text_lines, string_lines, offset_lines, number_lines, count_lines, tag_lines)
     for kind in fields + (order_lines, block_lines, connector_lines):
         kind()
-    folder = os.path.join(ROOT, "crates", "replay_keys")
-    for name, lines in (("stdin", OUT.keys()), ("stdout", OUT.values())):
-        with open(os.path.join(folder, name), "w", newline="\n") as f:
-            f.write("".join(line + "\n" for line in lines))
+    replay_lines.put(OUT.keys(), OUT.values())
     kinds = [line[0] for line in OUT]
     print(", ".join("%s %d" % (k, kinds.count(k)) for k in dict.fromkeys(kinds)), "- %d lines" % len(OUT))
 

@@ -1,6 +1,6 @@
-//! Replays the stored vectors of the repository: a line of crates/replay_manifests/stdin is a call, the same line of
-//! stdout its answer; crates/replay_manifests/src/main.rt says what the words of a line mean. Each call is made with
-//! indexes as long as the line says, and by a desk, whose answer is that with indexes just long enough.
+//! Replays the stored vectors of the repository: a line of crates/replay/stdin that begins with a digit is a call, the
+//! same line of stdout its answer; crates/replay/src/manifests.rt says what the words of a line mean. Each call is made
+//! with indexes as long as the line says, and by a desk, whose answer is that with indexes just long enough.
 use std::path::Path;
 
 use lurmashek::{index_words, lent, Desk, Options, Refusal, Side, SideRefusal, Starts, Units, Verdict};
@@ -9,17 +9,22 @@ use lurmashek::{index_words, lent, Desk, Options, Refusal, Side, SideRefusal, St
 const FILL: u32 = 0xa5a5_a5a5;
 
 fn stored(name: &str) -> String {
-    let folder = Path::new(env!("CARGO_MANIFEST_DIR")).join("../../crates/replay_manifests");
+    let folder = Path::new(env!("CARGO_MANIFEST_DIR")).join("../../crates/replay");
     std::fs::read_to_string(folder.join(name)).expect("stored vectors")
 }
 
-/// Replays the lines of so many words, and says how many there are. `answer` makes a call and gives the line that is
+/// Whether a line is a call: one that begins with a letter is none.
+fn is_call(line: &str) -> bool {
+    !line.starts_with(|c: char| c.is_ascii_alphabetic())
+}
+
+/// Replays the calls of so many words, and says how many there are. `answer` makes a call and gives the line that is
 /// to be stored for it.
 fn replay(words: usize, mut answer: impl FnMut(&[&str]) -> String) -> usize {
     let (calls, answers) = (stored("stdin"), stored("stdout"));
     assert_eq!(calls.lines().count(), answers.lines().count());
     let mut replayed = 0;
-    for (call, stored) in calls.lines().zip(answers.lines()) {
+    for (call, stored) in calls.lines().zip(answers.lines()).filter(|(call, _)| is_call(call)) {
         let call: Vec<&str> = call.split(' ').collect();
         if call.len() == words {
             assert_eq!(answer(&call), stored, "{call:?}");
@@ -172,8 +177,8 @@ fn pairs() {
     assert_eq!(replayed, 681);
 }
 
-/// No line is of another kind than the three above.
+/// No call is of another kind than the three above.
 #[test]
-fn all_lines() {
-    assert_eq!(stored("stdin").lines().count(), 4077 + 897 + 681);
+fn all_calls() {
+    assert_eq!(stored("stdin").lines().filter(|line| is_call(line)).count(), 4077 + 897 + 681);
 }

@@ -1,5 +1,5 @@
-// Replays test vectors for text, fields, orders and keys: a line of standard input each, and its answer on a line of
-// standard output. tools/vectors.py writes both. HEX is bytes, two digits each, and `-` where there are none.
+// Lines for text, fields, orders and keys, and their answers. tools/vectors.py writes both. HEX is bytes, two digits
+// each, and `-` where there are none.
 //
 //   t HEX                    how many bytes are valid text:       N
 //   s LIMIT AT HEX           the string at a position:            next N, or refused QUESTION POSITION
@@ -11,22 +11,13 @@
 //   o HEX HEX                the order of two byte strings:       less N, equal N, greater N, where N bytes agree
 //   b HEX HEX                the order of two block keys:         less N .., left refused .., right refused ..
 //   k HEX HEX                the order of two connector keys:     likewise
-#![tactic(auto)]
-
+use super::lines::{bytes, number};
 use order::Compared;
-use replay_lines::{bytes, number};
 use state::{Field, Refusal, Step};
 use state_key_order::{KeyRefusal, KeysCompared};
-use state_wire::part;
 use std::cmp::Ordering;
 use std::fmt::Display;
 use std::io;
-use std::io::Read;
-
-// The most bytes of standard input, and of one HEX.
-const INPUT: usize = 262144;
-
-const SIZE: usize = 1024;
 
 fn print_step(rt: &impl Print, step: Step) -> io::Result<()> {
     match step {
@@ -153,7 +144,7 @@ fn compare(
 }
 
 // The answer to a line, by its letter, which is word 0.
-fn answer(
+pub(crate) fn answer(
     rt: &impl Print,
     op: u8,
     line: &[u8],
@@ -170,23 +161,4 @@ fn answer(
         b'g' => tag_line(rt, line, room),
         _ => compare(rt, op, line, room, other),
     }
-}
-
-fn lines(rt: &impl Print, s: &[u8], room: &mut [u8], other: &mut [u8]) -> io::Result<()> {
-    for line in s.split(|c| *c == b'\n') {
-        if let Some(op) = line.first() {
-            answer(rt, *op, line, room, other)?;
-        }
-    }
-    Ok(())
-}
-
-fn main(rt: HostRuntime) -> io::Result<()> {
-    let mut input = [0u8; INPUT];
-    let mut unfilled = &mut input[..];
-    // std has no From between usize and u64; both are 64 bits wide here.
-    let n = io::copy(&mut rt.reader().take(INPUT as u64), &mut unfilled)? as usize;
-    let mut room = [0u8; SIZE];
-    let mut other = [0u8; SIZE];
-    lines(&rt, part(&input, 0, n), &mut room, &mut other)
 }

@@ -1,5 +1,5 @@
-// Replays manifests: a line of standard input each, and its answer on a line of standard output.
-// tools/manifest_vectors.py writes both. HEX is bytes, two digits each, and `-` where there are none.
+// Lines for manifests, and their answers. tools/manifest_vectors.py writes both. HEX is bytes, two digits each, and `-`
+// where there are none.
 //
 //   BASE REVISION WORDS HEX                            a manifest, with an index of so many words:
 //                                                      accepted S1 .. S12, or refused QUESTION OFFSET
@@ -10,21 +10,14 @@
 //                                                      then ` starts S1 .. S12` of each that is accepted
 //
 // Each index is filled before a call. The answer ends with `index` where the call has left another one than it must.
-#![tactic(auto)]
-
 ghost use Rattle.std.specs.Prelude.{◌≤◌};
 
+use super::lines::{bytes, number, words};
 use manifest::INDEX_LENGTH;
-use replay_lines::{bytes, number, words};
 use state::{Decoded, Question, SideRefusal, Verdict};
 use std::io;
-use std::io::BufRead;
 
-// The most lines, bytes of a line and of one HEX, and words of an index.
-const LINES: usize = 1000000;
-
-const LINE: usize = 4096;
-
+// The most bytes of one HEX, and words of an index.
 const SIZE: usize = 1024;
 
 const WORDS: usize = 512;
@@ -34,13 +27,13 @@ const FILL: u32 = 0xa5a5a5a5;
 
 // Room for the bytes of one manifest and for its index.
 #[derive(Drop)]
-struct Room {
-    bytes: [u8; SIZE],
+pub(crate) struct Room {
+    pub(crate) bytes: [u8; SIZE],
     index: [u32; WORDS],
 }
 
 impl Room {
-    fn new() -> Room {
+    pub(crate) fn new() -> Room {
         Room {
             bytes: [0; SIZE],
             index: [0; WORDS],
@@ -191,7 +184,12 @@ fn compare(rt: &impl Print, snapshot: Call, target: Call) -> io::Result<()> {
 }
 
 // The answer to a line of four, five or eight words. There is none where it asks for a longer index than there is.
-fn answer(rt: &impl Print, line: &[u8], room: &mut Room, room2: &mut Room) -> io::Result<()> {
+pub(crate) fn answer(
+    rt: &impl Print,
+    line: &[u8],
+    room: &mut Room,
+    room2: &mut Room,
+) -> io::Result<()> {
     let Some(call) = call_at(line, 0, room) else {
         return Ok(());
     };
@@ -203,41 +201,4 @@ fn answer(rt: &impl Print, line: &[u8], room: &mut Room, room2: &mut Room) -> io
             None => Ok(()),
         },
     }
-}
-
-// Reads a byte, or nothing where the input has ended.
-fn next_byte(reader: &mut impl BufRead) -> io::Result<Option<u8>> {
-    let byte = reader.fill_buf()?.first().copied();
-    if byte.is_some() {
-        reader.consume(1);
-    }
-    Ok(byte)
-}
-
-// Reads a line, without its end, or as much of it as there is room for; or nothing where the input has ended.
-// Not `read_until`: it fills a `Vec`, and nothing is allocated.
-fn next_line<'a>(reader: &mut impl BufRead, room: &'a mut [u8]) -> io::Result<Option<&'a [u8]>> {
-    for n in 0..room.len() {
-        match next_byte(reader)? {
-            None if n == 0 => return Ok(None),
-            None | Some(b'\n') => return Ok(Some(&room[..n])),
-            Some(byte) => room[n] = byte,
-        }
-    }
-    Ok(Some(room))
-}
-
-fn main(rt: HostRuntime) -> io::Result<()> {
-    let mut reader = rt.reader();
-    let mut line = [0u8; LINE];
-    let mut room = Room::new();
-    let mut room2 = Room::new();
-    // Input may have no end: so the lines are counted.
-    for _ in 0..LINES {
-        let Some(line) = next_line(&mut reader, &mut line)? else {
-            return Ok(());
-        };
-        answer(&rt, line, &mut room, &mut room2)?;
-    }
-    Ok(())
 }

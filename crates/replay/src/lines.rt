@@ -1,8 +1,5 @@
-// Words, numbers and bytes in the lines that the replaying programs read. A word that is missing, or no number or
-// byte, counts as empty or 0: scripts write the lines.
-
-#![tactic(auto)]
-
+// Words, numbers and bytes in the lines that are read. A word that is missing, or no number or byte, counts as empty
+// or 0: scripts write the lines.
 use std::str;
 use std::str::FromStr;
 
@@ -11,7 +8,7 @@ fn is_space(c: &u8) -> bool {
 }
 
 // How many words a line has.
-pub fn words(line: &[u8]) -> usize {
+pub(crate) fn words(line: &[u8]) -> usize {
     line.split(is_space).count()
 }
 
@@ -21,7 +18,7 @@ fn word(line: &[u8], n: usize) -> &[u8] {
 }
 
 // The decimal number that word n is, or 0 where it is none.
-pub fn number<N: FromStr<Err: Drop> + Default>(line: &[u8], n: usize) -> N {
+pub(crate) fn number<N: FromStr<Err: Drop> + Default>(line: &[u8], n: usize) -> N {
     str::from_utf8(word(line, n))
         .ok()
         .and_then(|digits| digits.parse().ok())
@@ -37,7 +34,7 @@ fn byte_of(digits: &[u8]) -> u8 {
 }
 
 // The bytes that word n, a HEX, spells, as many as there is room for.
-pub fn bytes<'a>(line: &[u8], n: usize, room: &'a mut [u8]) -> &'a [u8] {
+pub(crate) fn bytes<'a>(line: &[u8], n: usize, room: &'a mut [u8]) -> &'a [u8] {
     let hex = word(line, n);
     let len = room.len().min(hex.len() / 2);
     for (byte, digits) in room.iter_mut().zip(hex.chunks_exact(2)) {
