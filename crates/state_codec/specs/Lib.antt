@@ -1,2 +1,2 @@
--- What the contracts of the private functions of `state_codec` cite.
+-- What the contracts of `state_codec` cite.
 pub mod Listed

@@ -1,4 +1,4 @@
--- Where questions 33 to 37 find what they ask about: only contracts of private functions cite it.
+-- Where questions 33 to 37 find what they ask about: what the contracts of this crate cite.
 use Rattle.std.specs.Prelude.{ℕ, ◌≡◌, true, List, map}
 use Rattle.format.specs.Manifest.{entry, connectors}
 use Rattle.format.specs.Fields.{Entry, slots_of}

@@ -1,4 +1,4 @@
--- Two manifests side by side: only contracts of private functions cite it.
+-- Two manifests side by side: what the contracts of this crate cite.
 use Rattle.std.specs.Prelude.{Err, ℕ, ◌+◌, ◌-◌, ◌≡◌, List, length, get_or}
 use Rattle.state.specs.Bytes.{AreBytes}
 use Rattle.state.specs.declared.Difference.{Difference}

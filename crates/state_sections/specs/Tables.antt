@@ -1,4 +1,4 @@
--- What the readers promise of the lent index while they fill it: their private contracts.
+-- What the readers promise of the lent index while they fill it.
 use Rattle.state.specs.Outcome.{Stepped}
 use Rattle.std.specs.Prelude.{ℕ, ◌+◌, ◌*◌, ◌≤◌, ◌≡◌, Option, Some, None, List, [], ◌∷◌, length, take, Ok}
 use Rattle.state_wire.specs.Fields.{max_snapshot_bytes}
