@@ -2,10 +2,10 @@
 -- is made and moved, and the one answer that it gives beside state_wire's.
 use Rattle.std.specs.Prelude.{ℕ, ◌+◌, List, Result, Ok, Err}
 use Rattle.std.specs.Borrow.{Bor}
-use Rattle.std.specs.declared.ops.Range.{Range}
 use Rattle.state.specs.declared.Refusal.{Refusal}
 use Rattle.state.specs.Outcome.{Outcome, got, refused, refuses, NumberRead, offset_of}
 use Rattle.state_reader.specs.declared.Reader.{Reader}
+use Rattle.state_reader.specs.declared.TextSpan.{TextSpan}
 
 -- a reader at the first of the lent bytes
 abbrev pub opened : Bor (List ℕ) → (base : ℕ) → Reader
@@ -22,7 +22,7 @@ past_field (Err e) at = at
 
 -- what code answers that reads a string: where its text begins and ends
 abbrev pub TextRead : Type 0
-TextRead = Result (Range ℕ) (Refusal ℕ)
+TextRead = Result TextSpan (Refusal ℕ)
 
 -- a string's reading at `at`, as an answer with a base: where its text begins and ends. Document 01, state_wire.rs: "A string is two fields, a
 -- u32 length and a text of that many bytes", so the text begins four bytes on; "A refusal is number and offset"

@@ -7,7 +7,6 @@ ghost use Rattle.state_wire.specs.Fields.{read_number, read_text, text_of};
 ghost use Rattle.state_reader.specs.Read.{string_read, opened, moved_to, past_field};
 
 use state::{Field, Refusal, Step};
-use std::ops::Range;
 
 #[derive(Clone, Copy)]
 pub struct Reader<'a> {
@@ -16,8 +15,15 @@ pub struct Reader<'a> {
     pub base_offset: u64,
 }
 
+// Where the text of a string begins and ends. Not a `Range`, which is not `Copy`.
+#[derive(Clone, Copy, PartialEq, Eq)]
+pub struct TextSpan {
+    pub start: usize,
+    pub end: usize,
+}
+
 // Where the text of a string begins and ends; or the question that fails, and the offset.
-pub type StringRead = Result<Range<usize>, Refusal<u64>>;
+pub type StringRead = Result<TextSpan, Refusal<u64>>;
 
 // A string of at most `limit` bytes, with its place or the offset of its refusal.
 #[tactic(auto, unfolding(state_wire::specs::Fields::read_text, state_wire::specs::Fields::read_number, state_wire::specs::Fields::read_span))]
@@ -25,7 +31,10 @@ pub fn string_at(s: &[u8], at: usize, base: u64, limit: usize) -> StringRead
     ensures { result ≡ string_read base at (read_text limit s.now at) }
 {
     state_wire::string_bounded(s, at, limit)
-        .map(|next| at + 4..next)
+        .map(|next| TextSpan {
+            start: at + 4,
+            end: next,
+        })
         .map_err(|r| r.question.at(state_wire::offset(base, r.at)))
 }
 
