@@ -7,7 +7,7 @@ mod positions;
 mod sift;
 pub mod words;
 
-ghost use Rattle.std.specs.Prelude.{◌≡◌, ◌+◌, ◌<◌, min, length, get_or};
+ghost use Rattle.std.specs.Prelude.{◌≡◌, ◌+◌, ◌<◌, min, length, get_or, cond, eqb};
 ghost use Rattle.format.specs.Format.{text};
 ghost use Rattle.format.specs.Manifest.{numbered};
 ghost use Rattle.format.specs.Places.{past, key_at};
@@ -24,6 +24,18 @@ pub enum SortKey {
     Text,
     // The number of the eight bytes there.
     Number,
+}
+
+impl SortKey {
+    // The kind that a number stands for: 1 the number, any other the text.
+    pub fn of(kind: u8) -> SortKey
+        ensures { result ≡ cond (eqb kind 1) SortKey.Number SortKey.Text }
+    {
+        match kind {
+            1 => SortKey::Number,
+            _ => SortKey::Text,
+        }
+    }
 }
 
 // A position n bytes further on, or the end of the bytes.

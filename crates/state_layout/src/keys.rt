@@ -13,6 +13,7 @@ use super::Manifest;
 use super::hints::hints_range;
 use state::{Section, WireValueType};
 use state_index::keys::{byte_at, count_at};
+use state_index::words::find_in;
 use state_index::{ahead, text_end, text_part, word_at, words};
 
 // The words that say where a section's entries start, whose keys ascend, and hints of the places of keys: a place plus 1, or 0, as the lent index has words alone.
@@ -83,6 +84,49 @@ impl<'a, const SECTION: u8> Keys<'a, SECTION> {
         *mark = 1;
         Some(i)
     }
+}
+
+// `mark` and `mark_new` over any words whose keys ascend, in a section that is a number when the program runs.
+#[tactic(auto, using(crate::proofs::Meeting::unmet))]
+pub fn mark(
+    s: &[u8],
+    section: u8,
+    words: &[u32],
+    hints: &[u32],
+    marks: &mut [u32],
+    key: &[u8],
+    hint: usize,
+) -> Option<usize>
+    requires ascends { Ascends (numbered section) s.now words.now }
+    requires long { length marks.old ≡ length words.now }
+    ensures { Met (numbered section) s.now words.now key.now result marks.old marks.new }
+{
+    let place = find_in(s, section, words, hints, key, hint)?;
+    marks[place] = 1;
+    Some(place)
+}
+
+#[tactic(auto, using(crate::proofs::Meeting::unmet_new))]
+pub fn mark_new(
+    s: &[u8],
+    section: u8,
+    words: &[u32],
+    hints: &[u32],
+    marks: &mut [u32],
+    key: &[u8],
+    hint: usize,
+) -> Option<usize>
+    requires ascends { Ascends (numbered section) s.now words.now }
+    requires long { length marks.old ≡ length words.now }
+    ensures { MetNew (numbered section) s.now words.now key.now result marks.old marks.new }
+{
+    let place = find_in(s, section, words, hints, key, hint)?;
+    let met = &mut marks[place];
+    if *met != 0 {
+        return None;
+    }
+    *met = 1;
+    Some(place)
 }
 
 // Whether all marks are set.

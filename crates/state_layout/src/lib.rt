@@ -39,7 +39,7 @@ pub fn section_start(starts: &[u32], section: u8) -> usize
 
 // From which word of the index on the entries of a section stand; behind the last one's the room begins.
 #[tactic(auto, using(crate::proofs::Indexed::reach_start, crate::proofs::Indexed::reach_next, crate::proofs::Indexed::reach_end))]
-fn start_of(s: &[u8], index: &[u32], section: u8) -> usize
+pub fn table_start(s: &[u8], index: &[u32], section: u8) -> usize
     requires laid { Laid s.now index.now }
     requires section_bound { section ≤ 13 }
     ensures { result ≡ table_start section (manifest_of s.now) }
@@ -58,7 +58,7 @@ pub fn room_start(s: &[u8], index: &[u32]) -> usize
     requires { Laid s.now index.now }
     ensures { result ≡ room_start s.now }
 {
-    start_of(s, index, Section::INPUT_DEFINITIONS + 1)
+    table_start(s, index, Section::INPUT_DEFINITIONS + 1)
 }
 
 // A manifest that was read: its bytes, and the words that begin with the starts of its sections and of their entries.
@@ -75,7 +75,7 @@ impl<'a> Manifest<'a> {
         requires section_bound { section ≤ 12 }
         ensures { (result.start ≡ table_start section (manifest_of self.entry.s.now)) × (result.end ≡ table_start (suc section) (manifest_of self.entry.s.now)) }
     {
-        start_of(self.s, self.words, section)..start_of(self.s, self.words, section + 1)
+        table_start(self.s, self.words, section)..table_start(self.s, self.words, section + 1)
     }
 
     // The table of a section: the words that say where its entries start. Section numbers are bytes, as document 01 has them, so bounds are clauses.

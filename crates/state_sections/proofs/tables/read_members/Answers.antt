@@ -21,7 +21,7 @@ pub all_distinct-requires : goal.all_distinct-requires
 all_distinct-requires c = simp (length-append, length-drop) (omega (arith, members-room _ _ c.read_count-count.ensures c.in-Ok.is c.requires, c.read_names-names.auto.names, members-taken _ _ c.read_count-count.ensures c.in-Ok.is c.requires))
 
 pub returns-then-all_distinct : goal.returns-then-all_distinct
-returns-then-all_distinct c = members-different _ _ c.read_count-count.ensures c.in-Ok.is c.requires _ c.read_names-names.ensures c.in-Ok-names.is c.read_names-names.auto.names c.all_distinct.ensures c.if-all_distinct.true
+returns-then-all_distinct c = members-different _ _ c.read_count-count.ensures c.in-Ok.is c.requires _ c.read_names-names.ensures c.in-Ok-names.is c.read_names-names.auto.names c.all_distinct.ensures.value c.if-all_distinct.true
 
 pub returns-else-all_distinct : goal.returns-else-all_distinct
-returns-else-all_distinct c = ap Err c.at.ensures ∙ members-same _ _ c.read_count-count.ensures c.in-Ok.is c.requires _ c.read_names-names.ensures c.in-Ok-names.is c.read_names-names.auto.names c.all_distinct.ensures c.if-all_distinct.false
+returns-else-all_distinct c = ap Err c.at.ensures ∙ members-same _ _ c.read_count-count.ensures c.in-Ok.is c.requires _ c.read_names-names.ensures c.in-Ok-names.is c.read_names-names.auto.names c.all_distinct.ensures.value c.if-all_distinct.false

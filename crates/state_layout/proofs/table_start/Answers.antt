@@ -1,6 +1,6 @@
 use native.Mathlib.Omega.{arith}
 use Rattle.state_layout.proofs.Indexed.{reach_next, reach_end, reach_fits, reach_word}
-use Rattle.state_layout.proofs.start_of.Goals as goal
+use Rattle.state_layout.proofs.table_start.Goals as goal
 
 pub overflow_add-w : goal.overflow_add-w
 overflow_add-w c = omega (arith, reach_fits (reach_next c.loop-k.invariant c.loop-k-test.true c.section_start.ensures c.count_at-w.ensures))
