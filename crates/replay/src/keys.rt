@@ -11,7 +11,7 @@
 //   o HEX HEX                the order of two byte strings:       less N, equal N, greater N, where N bytes agree
 //   b HEX HEX                the order of two block keys:         less N .., left refused .., right refused ..
 //   k HEX HEX                the order of two connector keys:     likewise
-use super::lines::{bytes, number};
+use super::lines::{bytes, number, position};
 use order::Compared;
 use state::{Field, Refusal, Step};
 use state_key_order::{KeyRefusal, KeysCompared};
@@ -75,7 +75,7 @@ fn string_line(rt: &impl Print, line: &[u8], room: &mut [u8]) -> io::Result<()> 
     let s = bytes(line, 3, room);
     print_step(
         rt,
-        state_wire::string_bounded(s, number(line, 2), number(line, 1)),
+        state_wire::string_bounded(s, position(line, 2), position(line, 1)),
     )
 }
 
@@ -83,17 +83,17 @@ fn string_text_line(rt: &impl Print, line: &[u8], room: &mut [u8]) -> io::Result
     let s = bytes(line, 3, room);
     print_hex(
         rt,
-        state_wire::string_text(s, number(line, 2), number(line, 1)),
+        state_wire::string_text(s, position(line, 2), position(line, 1)),
     )
 }
 
 fn offset_line(rt: &impl Print, line: &[u8]) -> io::Result<()> {
-    let offset = state_wire::offset(number(line, 1), number(line, 2));
+    let offset = state_wire::offset(number(line, 1), position(line, 2));
     println!(rt; "{offset}")
 }
 
 // The width of a number is a constant of its reader: a line's is one of three.
-fn read_number(s: &[u8], at: usize, width: usize) -> Field {
+fn read_number(s: &[u8], at: usize, width: u64) -> Field {
     match width {
         1 => state_wire::read_number::<1>(s, at),
         4 => state_wire::read_number::<4>(s, at),
@@ -103,7 +103,7 @@ fn read_number(s: &[u8], at: usize, width: usize) -> Field {
 
 fn number_line(rt: &impl Print, line: &[u8], room: &mut [u8]) -> io::Result<()> {
     let s = bytes(line, 3, room);
-    print_number(rt, read_number(s, number(line, 2), number(line, 1)))
+    print_number(rt, read_number(s, position(line, 2), number(line, 1)))
 }
 
 fn count_line(rt: &impl Print, line: &[u8], room: &mut [u8]) -> io::Result<()> {
@@ -111,16 +111,15 @@ fn count_line(rt: &impl Print, line: &[u8], room: &mut [u8]) -> io::Result<()> {
     let (count, least) = (number(line, 1), number(line, 2));
     print_number(
         rt,
-        state_wire::bounded_count(s, number(line, 3), count, least),
+        state_wire::bounded_count(s, position(line, 3), count, least),
     )
 }
 
 fn tag_line(rt: &impl Print, line: &[u8], room: &mut [u8]) -> io::Result<()> {
     let s = bytes(line, 3, room);
-    print_number(
-        rt,
-        state_wire::read_tag(s, number(line, 2), number(line, 1)),
-    )
+    // A tag is a byte: of a number above 255 the last byte counts.
+    let known = (number(line, 1) % 256) as u8;
+    print_number(rt, state_wire::read_tag(s, position(line, 2), known))
 }
 
 // What two HEX come to.
@@ -143,7 +142,7 @@ fn compare(
     }
 }
 
-// The answer to a line, by its letter, which is word 0.
+// The answer to a line, by its letter, which word 0 begins with. What is lent goes on behind the line: a line of too few words takes the next one's.
 pub(crate) fn answer(
     rt: &impl Print,
     op: u8,

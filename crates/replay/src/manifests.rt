@@ -12,7 +12,7 @@
 // Each index is filled before a call. The answer ends with `index` where the call has left another one than it must.
 ghost use Rattle.std.specs.Prelude.{◌≤◌};
 
-use super::lines::{bytes, number, words};
+use super::lines::{behind, bytes, number, position};
 use manifest::INDEX_LENGTH;
 use state::{Decoded, Question, SideRefusal, Verdict};
 use std::io;
@@ -57,12 +57,13 @@ fn call_at<'a>(line: &[u8], first: usize, room: &'a mut Room) -> Option<Call<'a>
     let index = room
         .index
         .as_mut_slice()
-        .get_mut(..number::<usize>(line, first + 2))?;
+        .get_mut(..position(line, first + 2))?;
     index.fill(FILL);
     Some(Call {
         bytes: bytes(line, first + 3, room.bytes.as_mut_slice()),
         base: number(line, first),
-        revision: number(line, first + 1),
+        // A revision is 32 bits wide: of a larger number the last 32 count.
+        revision: (number(line, first + 1) % 4294967296) as u32,
         index,
     })
 }
@@ -183,7 +184,7 @@ fn compare(rt: &impl Print, snapshot: Call, target: Call) -> io::Result<()> {
     print_verdict(rt, verdict, index, index2)
 }
 
-// The answer to a line of four, five or eight words. There is none where it asks for a longer index than there is.
+// The answer to a line of four words or fewer, of five, or of more. There is none where it asks for a longer index than there is.
 pub(crate) fn answer(
     rt: &impl Print,
     line: &[u8],
@@ -193,12 +194,14 @@ pub(crate) fn answer(
     let Some(call) = call_at(line, 0, room) else {
         return Ok(());
     };
-    match words(line) {
-        4 => decode(rt, call),
-        5 => decode_tail(rt, call, bytes(line, 4, &mut room2.bytes)),
-        _ => match call_at(line, 4, room2) {
-            Some(target) => compare(rt, call, target),
-            None => Ok(()),
-        },
+    if behind(line, 4).is_empty() {
+        return decode(rt, call);
+    }
+    if behind(line, 5).is_empty() {
+        return decode_tail(rt, call, bytes(line, 4, &mut room2.bytes));
+    }
+    match call_at(line, 4, room2) {
+        Some(target) => compare(rt, call, target),
+        None => Ok(()),
     }
 }
