@@ -41,6 +41,11 @@ pub(crate) fn texts_differ(s: &[u8], names: &[u32], room: &mut [u32]) -> bool
     ensures { result ≡ all_different (map (text_at s.now) names.now) }
 {
     let n = names.len();
-    room[..n].copy_from_slice(names);
+    // Not `copy_from_slice`, nor a loop that copies and does nothing else: these become a call of `memmove` or `memcpy`, which the library for C
+    // would then need from outside. So each turn clears a word of the room behind, too.
+    for i in 0..n {
+        room[i] = names[i];
+        room[n + i] = 0;
+    }
     words::all_distinct(s, room, n)
 }

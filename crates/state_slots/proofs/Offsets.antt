@@ -6,7 +6,7 @@ use mathlib.Core.Path.{◌≡◌, refl, sym, ap, ◌∙◌, subst}
 use mathlib.Core.Bool.{Bool, true, false, cond, ◌&&◌}
 use mathlib.Core.List.{List, [], ◌∷◌, ◌++◌, map}
 use lib.ListN.{length, get_or, take, drop, set, drop_of_length-le, length-set}
-use lib.Seq.{drop-cons, take-suc-set, drop-set-lt}
+use lib.Seq.{drop-cons, take-suc-set}
 use lib.Dec.{leb, ltb, eqb}
 use denote.Param.Members.{Mut}
 use denote.Ref.{Bor}
@@ -50,24 +50,25 @@ key-within s p = go (get_or s p 0)
 -- ---- gathered: those below the i-th are done
 pub record Gathering (f : ℕ → ℕ) (slots l : List ℕ) (i : ℕ) : Type 0 where
   pub long : length l ≡ length slots
-  pub is : take i l ++ map f (drop i l) ≡ map f slots
+  pub is : take i l ++ map f (drop i slots) ≡ map f slots
 
-pub gather-start : (f : ℕ → ℕ) (slots : List ℕ) → Gathering f slots slots 0
-gather-start f slots = record { long = refl; is = refl }
+pub gather-start : (f : ℕ → ℕ) (slots l : List ℕ) → length slots ≡ length l → Gathering f slots l 0
+gather-start f slots l h = record { long = sym h; is = refl }
 
 module _ {f : ℕ → ℕ} {slots l : List ℕ} {i : ℕ} (g : Gathering f slots l i) where
-  pub gather-on : i < length l → {x : ℕ} → x ≡ f (get_or l i 0) → Gathering f slots (set l i x) (i + 1)
+  pub gather-on : i < length slots → {x : ℕ} → x ≡ f (get_or slots i 0) → Gathering f slots (set l i x) (i + 1)
   gather-on h {x} e = record {
     long = simp length-set g.long;
     is =
-        rw (add-one i, take-suc-set l i x h, drop-set-lt (suc i) l i x (omega arith), append_assoc, e)
-        (ap (λ r. take i l ++ map f r) (sym (drop-cons l i 0 h)) ∙ g.is);
+        rw (add-one i, take-suc-set l i x (omega (arith, g.long)), append_assoc, e)
+        (ap (λ r. take i l ++ map f r) (sym (drop-cons slots i 0 h)) ∙ g.is);
   }
 
-  pub gather-end : length l ≤ i → l ≡ map f slots
+  pub gather-end : length slots ≤ i → l ≡ map f slots
   gather-end h =
-      let d : drop i l ≡ [] = drop_of_length-le l h in
-      sym (take-append-drop i l) ∙ ap (λ r. take i l ++ r) (d ∙ ap (map f) (sym d)) ∙ g.is
+      let d : drop i l ≡ [] = drop_of_length-le l (omega (arith, g.long)) in
+      let e : drop i slots ≡ [] = drop_of_length-le slots h in
+      sym (take-append-drop i l) ∙ ap (λ r. take i l ++ r) (d ∙ ap (map f) (sym e)) ∙ g.is
 
 -- ---- walked over: each starts where the one before it ends
 module _ (n : ℕ) (w : ℕ × ℕ) where

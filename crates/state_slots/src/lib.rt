@@ -108,16 +108,16 @@ fn slot_answer(s: &[u8], block: usize, slot: usize) -> Result<(), Question>
 
 // Puts the positions of the slots' offsets into as many words. That positions fit is a clause, here and below: lent the manifest, both would find
 // the slots in it again and speak of its table.
-// With the slots by `zip` the proof did not close: nothing is known of what is written through an adapter of `iter_mut`.
+// With the slots by `zip` the proof did not close: nothing is known of what is written through an adapter of `iter_mut`. Copied first and stepped
+// over then, they would become a call of `memmove`, which the library for C would need from outside.
 #[tactic(auto, using(crate::proofs::Offsets::gathering))]
 fn gather_offsets(s: &[u8], slots: &[u32], offsets: &mut [u32])
     requires { (length slots.now ≡ length offsets.old) × (length s.now < 2 ^ 32) }
     ensures { offsets.new ≡ map (past block_key s.now) slots.now }
 {
-    offsets.copy_from_slice(slots);
-    for at in offsets.iter_mut() {
+    for i in 0..slots.len() {
         // A position fits in 32 bits, as asked.
-        *at = block_key_end(s, position(*at)) as u32;
+        offsets[i] = block_key_end(s, position(slots[i])) as u32;
     }
 }
 
