@@ -3,6 +3,7 @@
 
 mod hints;
 pub mod keys;
+mod merge;
 mod positions;
 mod sift;
 pub mod words;

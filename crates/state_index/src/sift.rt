@@ -6,7 +6,7 @@ ghost use Rattle.state_index.specs.Sift.{rolled, spread, mark, slot_at};
 
 use super::keys::number_at;
 use super::positions::rising;
-use super::words::sort;
+use super::words::merge_sort;
 use super::{SortKey, position, text_part};
 use state_key_order::same_bytes;
 
@@ -108,6 +108,7 @@ pub(crate) fn different(s: &[u8], words: &mut [u32], count: usize) -> bool
     let Some(last) = sift(s, positions, slots) else {
         return false;
     };
-    sort(s, SortKey::Text, &mut words[..last]);
-    rising(s, &words[..last])
+    let (texts, room) = words.split_at_mut(last);
+    merge_sort(s, SortKey::Text, texts, room);
+    rising(s, texts)
 }

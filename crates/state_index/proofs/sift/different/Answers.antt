@@ -19,7 +19,7 @@ returns c =
     let different = λ (l : List ℕ). all_different (map (text_at c.args.s.now) l) in
     let all = c.in-Some.ensures.left in
     let some = c.in-Some-sift.ensures.left in
-    texts-sorted c.args.s.now _ _ _ c.sort.ensures c.rising.ensures.sorted (omega (arith, some.0, c.sift-2.auto.positions)) c.sort.auto.words
+    texts-sorted c.args.s.now _ _ c.split_at_mut-texts.ensures.front c.merge_sort.ensures c.rising.ensures.sorted (omega (arith, some.0, c.sift-2.auto.positions))
     ∙ sym some.1
     ∙ ap different (c.split_at_mut-positions-2.ensures.front ∙ take-append-le _ _ _ (omega (arith, all.0, c.sift.auto.positions)))
     ∙ sym all.1
