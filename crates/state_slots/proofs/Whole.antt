@@ -1,5 +1,5 @@
 -- The answers of the walks are those of the questions, of a manifest that was read and whose declarations hold.
-use Prim.Native.Nat.{ℕ, ◌^◌, ◌≤◌, ◌<◌}
+use Prim.Native.Nat.{ℕ, ◌+◌, ◌^◌, ◌≤◌, ◌<◌}
 use native.Mathlib.Omega.{arith}
 use mathlib.Core.Path.{◌≡◌, sym, ap, ◌∙◌, subst}
 use mathlib.Core.Bool.{Bool, true, false}
@@ -133,8 +133,8 @@ module _ {s tables bw ew : List ℕ} (t : Laid s tables) (eb : bw ≡ table_of 3
             unfolding ◌unless◌
             all_asked h = rw (← covered, h)
 
--- the room behind the tables has a word for each slot
-pub cover-room : {s index ew : List ℕ} → Tabled s index → ew ≡ table_of 9 s (take (room_start s) index) → (length ew ≤ length (drop (room_start s) index)) × (length s < 2 ^ 32)
+-- the room behind the tables has two words for each slot
+pub cover-room : {s index ew : List ℕ} → Tabled s index → ew ≡ table_of 9 s (take (room_start s) index) → (length ew + length ew ≤ length (drop (room_start s) index)) × (length s < 2 ^ 32)
 cover-room {s} {index} t e =
     let l = table_long (laid_front t) 9 (omega arith) in
     let r = room_behind t in

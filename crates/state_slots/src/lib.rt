@@ -3,7 +3,7 @@
 
 pub mod largest;
 
-ghost use Rattle.std.specs.Prelude.{ℕ, ◌≡◌, map, ◌^◌, ◌<◌, ◌≤◌, length};
+ghost use Rattle.std.specs.Prelude.{ℕ, ◌≡◌, map, ◌+◌, ◌^◌, ◌<◌, ◌≤◌, length};
 ghost use Rattle.std.specs.Slice.Iter.{iter_rest};
 ghost use Rattle.state.specs.Outcome.{said};
 ghost use Rattle.format.specs.Keys.{block_key};
@@ -143,15 +143,15 @@ fn slots_join(s: &[u8], offsets: &[u32]) -> bool
         .is_some()
 }
 
-// Question 24: sorted by offset, the slots start at 0 and join. One word of the room for each slot is scratch.
+// Question 24: sorted by offset, the slots start at 0 and join. Two words of the room for each slot are scratch.
 fn slots_cover(s: &[u8], slots: &[u32], room: &mut [u32]) -> bool
-    requires room { (length slots.now ≤ length room.old) × (length s.now < 2 ^ 32) }
+    requires room { (length slots.now + length slots.now ≤ length room.old) × (length s.now < 2 ^ 32) }
     requires all { All (λ p. Held (slot_at s.now p)) slots.now }
     ensures { result ≡ join_from 0 (by_offset (map (λ p. words (slot_at s.now p)) slots.now)) }
 {
-    let offsets = &mut room[..slots.len()];
+    let (offsets, spare) = room.split_at_mut(slots.len());
     gather_offsets(s, slots, offsets);
-    words::sort(s, SortKey::Number, offsets);
+    words::merge_sort(s, SortKey::Number, offsets, spare);
     slots_join(s, offsets)
 }
 
