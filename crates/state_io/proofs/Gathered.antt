@@ -1,9 +1,9 @@
 -- The external connectors: their keys met, and where their paths stand put into the room.
-use Prim.Native.Nat.{ℕ, ◌+◌, ◌≤◌, ◌<◌}
+use Prim.Native.Nat.{ℕ, suc, ◌+◌, ◌≤◌, ◌<◌}
 use native.Mathlib.Omega.{arith}
 use mathlib.Core.Path.{◌≡◌, refl, sym, ap, ◌∙◌}
 use mathlib.Core.Logic.{◌⊎◌, inl, inr}
-use mathlib.Core.Bool.{Bool, ◌||◌}
+use mathlib.Core.Bool.{Bool, true, false, cond, ◌||◌}
 use mathlib.Core.List.{List, [], ◌∷◌, ◌++◌, map, append_assoc, append-nil, map-append}
 use lib.ListN.{length, get_or, set, take, replicate, length-map, length-set}
 use Rattle.std.specs.Prelude.{Option}
@@ -68,6 +68,20 @@ pub gathered : (s words inputs : List ℕ) {marks room paths : List ℕ} → mar
     → room ≡ map (past connector_key s) (chosen marks words) → Sorts (at_most Text s) room paths → Sorts (at_most Text s) (external_paths s words inputs) paths
 unfolding external_paths
 gathered s words inputs m e h = rw (← chosen-kept (key_at connectors s) (keys_of external_inputs s inputs) words, ← m, ← e) h
+
+chosen-few : (marks ps : List ℕ) → length (chosen marks ps) ≤ length marks
+unfolding chosen
+chosen-few [] ps = omega arith
+chosen-few (m ∷ marks) [] = omega arith
+chosen-few (m ∷ marks) (p ∷ ps) = go (is_set m) (chosen-few marks ps)
+  where
+    go : (b : Bool) → length (chosen marks ps) ≤ length marks → length (cond b (p ∷ chosen marks ps) (chosen marks ps)) ≤ suc (length marks)
+    go true h = omega arith
+    go false h = omega arith
+
+-- there is a mark for each path
+pub marks_enough : (f : ℕ → ℕ) (marks words : List ℕ) {paths : List ℕ} → paths ≡ map f (chosen marks words) → length paths ≤ length marks
+marks_enough f marks words e = omega (arith, ap length e, length-map (chosen marks words) f, chosen-few marks words)
 
 -- a path starts within the bytes
 pub path-within : (s : List ℕ) (p : ℕ) {x : ℕ} → x ≡ past connector_key s p → x ≤ length s

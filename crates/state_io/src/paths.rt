@@ -13,7 +13,7 @@ ghost use Rattle.state_io.specs.Paths.{chosen, external_paths, another, count_ag
 
 use state::Section;
 use state_index::keys::connector_key_end;
-use state_index::words::sort;
+use state_index::words::merge_sort;
 use state_index::{SortKey, key_part, position, text_part, word_at};
 use state_key_order::same_bytes;
 use state_layout::ends::type_at;
@@ -72,7 +72,8 @@ pub(crate) fn external_paths<'i>(
     mark_inputs(connectors, inputs, marks);
     let count = put_paths(connectors, marks, paths);
     let paths = &mut paths[..count];
-    sort(connectors.s, SortKey::Text, paths);
+    // The marks were read, and are room now: there are no fewer than paths.
+    merge_sort(connectors.s, SortKey::Text, paths, marks);
     paths
 }
 
