@@ -1,12 +1,12 @@
 -- Which slot of a table a text belongs to: only the contracts of private functions cite it. All that a sift rests on is that equal texts
 -- have the same slot; the numbers below spread the others, and say nothing of what is answered.
-use Rattle.std.specs.Prelude.{ℕ, ◌+◌, ◌*◌, ◌-◌, ◌/◌, ◌%◌, List, cond, length, ltb, fold}
+use Rattle.std.specs.Prelude.{ℕ, ◌+◌, ◌*◌, ◌-◌, ◌/◌, ◌%◌, List, cond, length, ltb, fold, reverse}
 use Rattle.format.specs.Places.{number_at}
 use Rattle.state_index.specs.Keys.{text_at}
 
--- a number of few bytes
+-- a number of few bytes, rolled from the last one on
 unfoldable pub rolled : List ℕ → ℕ
-rolled t = fold (λ n b. n % 72057594037927936 * 256 + b) 0 t
+rolled t = fold (λ n b. n % 72057594037927936 * 256 + b) 0 (reverse t)
 
 -- both halves of a number of eight bytes, spread over the upper bits
 unfoldable pub spread : ℕ → ℕ

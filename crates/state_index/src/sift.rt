@@ -10,12 +10,13 @@ use super::words::merge_sort;
 use super::{SortKey, position, text_part};
 use state_key_order::same_bytes;
 
-// A number of few bytes.
+// A number of few bytes. From the last one on: rolled from the first, texts of four to seven bytes fall on fewer slots.
 #[tactic(auto, unfolding(crate::specs::Sift::rolled))]
 fn roll(t: &[u8]) -> u64
     ensures { result ≡ rolled t.now }
 {
     t.iter()
+        .rev()
         .fold(0, |n, b| n % 72057594037927936 * 256 + u64::from(*b))
 }
 
