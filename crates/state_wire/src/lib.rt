@@ -41,13 +41,22 @@ pub fn take(s: &[u8], at: usize, n: usize) -> Step
     }
 }
 
-// The number that W bytes spell at a position that has them: one load where W is 4 or 8.
-#[tactic(auto, using(crate::proofs::Numbers::number_wide))]
+// The number that W bytes spell at a position that has them: one load where W is 1, 4 or 8. One and four stand by themselves: written into eight
+// bytes and read again at once, they would be waited for.
+#[tactic(auto, using(crate::proofs::Fields::byte, crate::proofs::Numbers::number_wide, crate::proofs::Numbers::number_four))]
 pub fn number_at<const W: usize>(s: &[u8], at: usize) -> u64
     requires fits { at + W ≤ length s.now }
     requires width { W ≤ 8 }
     ensures { result ≡ number_of (span s.now at (at + W)) }
 {
+    if W == 1 {
+        return u64::from(s[at]);
+    }
+    if W == 4 {
+        let mut word = [0; 4];
+        word.copy_from_slice(&s[at..at + W]);
+        return u64::from(u32::from_le_bytes(word));
+    }
     let mut bytes = [0; 8];
     bytes[..W].copy_from_slice(&s[at..at + W]);
     u64::from_le_bytes(bytes)
