@@ -7,7 +7,9 @@ fn ends_word(c: &u8) -> bool {
 
 // What stands behind n words, or no bytes where there are fewer.
 pub(crate) fn behind(s: &[u8], n: usize) -> &[u8] {
-    s.splitn(n.saturating_add(1), ends_word).nth(n).unwrap_or(&[])
+    s.splitn(n.saturating_add(1), ends_word)
+        .nth(n)
+        .unwrap_or(&[])
 }
 
 // What a digit of base 16 stands for.
@@ -49,13 +51,14 @@ fn byte_of(digits: &[u8]) -> Option<u8> {
 // The bytes that word n, a HEX, spells, as many as there is room for.
 pub(crate) fn bytes<'a>(s: &[u8], n: usize, room: &'a mut [u8]) -> &'a [u8] {
     let pairs = behind(s, n).chunks_exact(2);
-    let mut len = 0;
+    let mut len: usize = 0;
     for (byte, digits) in room.iter_mut().zip(pairs) {
         let Some(spelt) = byte_of(digits) else {
             break;
         };
         *byte = spelt;
-        len += 1;
+        len = len.saturating_add(1);
     }
-    &room[..len]
+    // As many at most are written, which the check does not see.
+    &room[..len.min(room.len())]
 }

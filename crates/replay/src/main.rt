@@ -25,12 +25,7 @@ fn first_line(held: &[u8]) -> &[u8] {
 }
 
 // Answers the line that what is held begins with, and says how many bytes that took.
-fn answer(
-    rt: &impl Print,
-    held: &[u8],
-    room: &mut Room,
-    room2: &mut Room,
-) -> io::Result<usize> {
+fn answer(rt: &impl Print, held: &[u8], room: &mut Room, room2: &mut Room) -> io::Result<usize> {
     let line = first_line(held);
     match line.first() {
         Some(b'0'..=b'9') => {
@@ -50,23 +45,29 @@ fn main(rt: HostRuntime) -> io::Result<()> {
     let mut held = [0u8; HELD];
     let mut room = Room::new();
     let mut room2 = Room::new();
-    let (mut from, mut to, mut ended) = (0, 0, false);
+    // Where what is held begins and ends. The minima change nothing: by them the check sees, without a proof by hand, that both lie within.
+    let (mut from, mut to, mut ended) = (0usize, 0usize, false);
     // Input may have no end: so the lines are counted.
     for _ in 0..LINES {
-        if !ended && to - from < HELD / 2 {
-            held.copy_within(from..to, 0);
-            to -= from;
+        to = to.min(HELD);
+        let start = from.min(to);
+        if !ended && to - start < HELD / 2 {
+            held.copy_within(start..to, 0);
+            to -= start;
             from = 0;
             let mut unfilled = &mut held[to..];
             let most = unfilled.len();
+            // std has no From between usize and u64; both are 64 bits wide here.
             let n = io::copy(&mut rt.reader().take(most as u64), &mut unfilled)? as usize;
             ended = n < most;
-            to += n;
+            to = to.saturating_add(n);
         }
-        if from == to {
+        let end = to.min(HELD);
+        let rest = &held[from.min(end)..end];
+        if rest.is_empty() {
             return Ok(());
         }
-        from += answer(&rt, &held[from..to], &mut room, &mut room2)?;
+        from = from.saturating_add(answer(&rt, rest, &mut room, &mut room2)?);
     }
     Ok(())
 }
