@@ -4,11 +4,11 @@ use native.Mathlib.Omega.{arith}
 use mathlib.Core.Path.{◌≡◌, refl, sym, subst, ◌∙◌}
 use mathlib.Core.Bool.{Bool, true, false, not}
 use mathlib.Core.List.{List}
-use Rattle.std.specs.Ordering.{is_lt, is_le}
+use Rattle.std.specs.Ordering.{is_lt}
 use Rattle.std.specs.declared.cmp.Ordering.{Ordering}
 use Rattle.std.specs.declared.cmp.Ordering.TheVariants.{Less, Equal, Greater}
 use Rattle.order.specs.Lex.{lex_compare}
-use Rattle.order.proofs.Laws.{turned, lex-turned, lex-refl, lex-equal-iff, lex-trans}
+use Rattle.order.proofs.Laws.{lex-turned, lex-refl, lex-equal-iff, lex-trans}
 use Rattle.format.specs.Lists.{before, same}
 
 pub apart : {A : Type 0} → true ≡ false → A
@@ -50,15 +50,6 @@ module _ (x y : List ℕ) where
 
 pub leq-refl : (x : List ℕ) → leq x x ≡ true
 leq-refl x = rw (lex-refl x)
-
--- the order that a comparison finds
-least-is : (o : Ordering) → is_le o ≡ not (is_lt (turned o))
-least-is Less = refl
-least-is Equal = refl
-least-is Greater = refl
-
-pub least : (a b : List ℕ) → is_le (lex_compare a b) ≡ leq a b
-least a b = rw (lex-turned a b) (least-is (lex_compare a b))
 
 -- strictly before, and then not after
 pub less_then : (x y z : List ℕ) → lex_compare x y ≡ Less → leq y z ≡ true → lex_compare x z ≡ Less
