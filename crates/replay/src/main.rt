@@ -9,19 +9,70 @@ mod manifests;
 
 use manifests::Room;
 use std::io;
-use std::io::Read;
+use std::io::BufRead;
 
 // The most lines, and bytes of a line for manifests: two HEX have up to 4096 digits.
 const LINES: usize = 1000000;
 
 const LINE: usize = 8192;
 
-// The bytes that are held. Before a line is answered half as many are there, or all that input has left.
-const HELD: usize = 524288;
+// How many bytes from its begin on a line of src/keys.rt may take its words from, and how many are held.
+const AHEAD: usize = 262144;
+
+const HELD: usize = AHEAD + 65536;
+
+// Input that was read and is not answered yet. The minima below change nothing: by them the check sees, without a proof by hand, that it lies
+// within the bytes.
+#[derive(Drop)]
+struct Held {
+    bytes: [u8; HELD],
+    from: usize,
+    to: usize,
+    ended: bool,
+}
+
+impl Held {
+    fn rest(&self) -> &[u8] {
+        let to = self.to.min(HELD);
+        &self.bytes[self.from.min(to)..to]
+    }
+
+    // Reads on: a byte at least, or the end.
+    fn read(&mut self, reader: &mut impl BufRead) -> io::Result<()> {
+        let to = self.to.min(HELD);
+        let from = self.from.min(to);
+        if HELD - AHEAD <= from {
+            self.bytes.copy_within(from..to, 0);
+            self.from = 0;
+            self.to = to - from;
+        }
+        let bytes = reader.fill_buf()?;
+        let room = &mut self.bytes[self.to.min(HELD)..];
+        let n = bytes.len().min(room.len());
+        room[..n].copy_from_slice(&bytes[..n]);
+        reader.consume(n);
+        self.to = self.to.saturating_add(n);
+        self.ended = n == 0;
+        Ok(())
+    }
+}
 
 // The line that what is held begins with, its end included, or as much of it as is held.
 fn first_line(held: &[u8]) -> &[u8] {
     held.split_inclusive(|c| *c == b'\n').next().unwrap_or(&[])
+}
+
+// Whether all is held that the first answer depends on: the line, of a manifest, so that it is answered as soon as it is there; else as much as
+// words may be taken from.
+fn is_enough(held: &[u8]) -> bool {
+    match held.first() {
+        Some(b'0'..=b'9') => {
+            let line = first_line(held);
+            LINE <= line.len() || line.last() == Some(&b'\n')
+        }
+        Some(_) => AHEAD <= held.len(),
+        None => false,
+    }
 }
 
 // Answers the line that what is held begins with, and says how many bytes that took.
@@ -42,32 +93,28 @@ fn answer(rt: &impl Print, held: &[u8], room: &mut Room, room2: &mut Room) -> io
 }
 
 fn main(rt: HostRuntime) -> io::Result<()> {
-    let mut held = [0u8; HELD];
+    let mut reader = rt.reader();
+    let mut held = Held {
+        bytes: [0; HELD],
+        from: 0,
+        to: 0,
+        ended: false,
+    };
     let mut room = Room::new();
     let mut room2 = Room::new();
-    // Where what is held begins and ends. The minima change nothing: by them the check sees, without a proof by hand, that both lie within.
-    let (mut from, mut to, mut ended) = (0usize, 0usize, false);
-    // Input may have no end: so the lines are counted.
+    // Input may have no end: so the lines are counted, and what is read for one of them.
     for _ in 0..LINES {
-        to = to.min(HELD);
-        let start = from.min(to);
-        if !ended && to - start < HELD / 2 {
-            held.copy_within(start..to, 0);
-            to -= start;
-            from = 0;
-            let mut unfilled = &mut held[to..];
-            let most = unfilled.len();
-            // std has no From between usize and u64; both are 64 bits wide here.
-            let n = io::copy(&mut rt.reader().take(most as u64), &mut unfilled)? as usize;
-            ended = n < most;
-            to = to.saturating_add(n);
+        for _ in 0..AHEAD {
+            if held.ended || is_enough(held.rest()) {
+                break;
+            }
+            held.read(&mut reader)?;
         }
-        let end = to.min(HELD);
-        let rest = &held[from.min(end)..end];
-        if rest.is_empty() {
+        if held.rest().is_empty() {
             return Ok(());
         }
-        from = from.saturating_add(answer(&rt, rest, &mut room, &mut room2)?);
+        let taken = answer(&rt, held.rest(), &mut room, &mut room2)?;
+        held.from = held.from.saturating_add(taken);
     }
     Ok(())
 }
