@@ -10,7 +10,7 @@ use super::words::merge_sort;
 use super::{SortKey, position, text_part};
 use state_key_order::same_bytes;
 
-// A number of few bytes. From the last one on: rolled from the first, texts of four to seven bytes fall on fewer slots.
+// A number of few bytes, rolled from the last one on.
 #[tactic(auto, unfolding(crate::specs::Sift::rolled))]
 fn roll(t: &[u8]) -> u64
     ensures { result ≡ rolled t.now }
