@@ -9,7 +9,7 @@ use std::time::Instant;
 use lurmashek::{index_words, lent, Options, Part, Refusal, Section, Verdict, MOST_BYTES};
 
 mod plants;
-use plants::{class, plant, plant_and_tail, Shape};
+use plants::{class, plant, plant_and_tail, Order, Shape};
 
 const PLAIN: Options = Options { base: 0, revision: 2 };
 
@@ -141,8 +141,17 @@ fn main() {
     ] {
         row(&format!("{name}, {size} MiB"), rounds, &plant(size << 20, shape), false, &oracle);
     }
-    row("a class of 2,000,000 members, sorted", 5, &class(2_000_000, false), false, &oracle);
-    row("the same, shuffled", 5, &class(2_000_000, true), false, &oracle);
+    row("a class of 2,000,000 members, sorted", 5, &class(2_000_000, Order::Sorted, ""), false, &oracle);
+    row("the same, shuffled", 5, &class(2_000_000, Order::Shuffled, ""), false, &oracle);
+    for (name, order) in [
+        ("sorted", Order::Sorted),
+        ("falling", Order::Falling),
+        ("two sorted runs", Order::TwoRuns),
+        ("shuffled", Order::Shuffled),
+    ] {
+        let bytes = class(400_000, order, "the ends");
+        row(&format!("400,000 members with the same ends, {name}"), 10, &bytes, false, &oracle);
+    }
     head("| decode_tail, questions 1 to 38 | manifest, MB | tail, MB | ms |", ratio, &oracle);
     for (size, rounds) in [(1, 100), (16, 20)] {
         tail_row(size, rounds, &oracle);

@@ -225,17 +225,30 @@ pub fn plant_and_tail(size: usize) -> (Vec<u8>, Vec<u8>) {
     (plant.bytes(), plant.tail())
 }
 
-/// One class of so many members, in order or shuffled, and a block that names it.
-pub fn class(count: usize, shuffled: bool) -> Vec<u8> {
+/// The order in which a class lists its members.
+pub enum Order {
+    Sorted,
+    Shuffled,
+    /// Those of even numbers, then those of odd ones.
+    TwoRuns,
+    Falling,
+}
+
+/// One class of so many members, and a block that names it. `ends` stands in front of and behind the number of each: where it has eight bytes,
+/// the first and the last eight of all members are alike, and a sift by these leaves them all to the sort.
+pub fn class(count: usize, order: Order, ends: &str) -> Vec<u8> {
     let mut members: Vec<usize> = (0..count).collect();
-    if shuffled {
-        Dice(1).shuffle(&mut members);
+    match order {
+        Order::Sorted => {}
+        Order::Shuffled => Dice(1).shuffle(&mut members),
+        Order::TwoRuns => members.sort_by_key(|m| (m % 2, *m)),
+        Order::Falling => members.reverse(),
     }
     let w = &mut Wire::default();
     w.tag(0);
     w.u32(1);
     w.text("Types.Large");
-    w.list(&members, |w, m| w.text(&format!("m{m:07}")));
+    w.list(&members, |w, m| w.text(&format!("m{ends}{m:07}{ends}")));
     w.list(&["b"], |w, b| {
         w.block(b);
         w.text("CDL.Reals.Add");
